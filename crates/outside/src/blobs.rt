@@ -72,3 +72,40 @@ impl Blob {
         self.bytes
     }
 }
+
+/// A list of blobs that a value owns. Contracts see the list of their bytes.
+#[derive(Drop)]
+pub struct Blobs {
+    blobs: Vec<Blob>,
+}
+
+impl Model for Blobs {
+    ghost use Rattle.std.specs.Prelude.{List, ℕ};
+
+    ghost Value = { List (List ℕ) };
+
+    ghost view = { λ b. b.blobs.items };
+}
+
+impl Blobs {
+    /// The list of a vector's blobs, without a copy.
+    pub fn from_vec(blobs: Vec<Blob>) -> Blobs
+        ensures { result ≡ blobs.items }
+    {
+        Blobs { blobs }
+    }
+
+    /// The blobs.
+    pub fn blobs(&self) -> &[Blob]
+        ensures { result.now ≡ self.now }
+    {
+        self.blobs.as_slice()
+    }
+
+    /// The blobs as a vector, without a copy.
+    pub fn into_vec(self) -> Vec<Blob>
+        ensures { result.items ≡ self }
+    {
+        self.blobs
+    }
+}

@@ -7,7 +7,7 @@
 //! [`StdSink`] pass on what the reader or writer below them tells.
 //!
 //! The small types that every layer names stand here too: [`Memory`], the one answer that needs no
-//! cause, [`Span`], [`Blob`] and [`Text`].
+//! cause, [`Span`], [`Blob`], [`Blobs`] and [`Text`].
 #![tactic(auto)]
 
 mod blobs;
@@ -20,7 +20,7 @@ mod std_streams;
 mod texts;
 mod wants;
 
-pub use blobs::{Blob, Span};
+pub use blobs::{Blob, Blobs, Span};
 pub use memory_sinks::MemSink;
 pub use memory_sources::MemSource;
 pub use scripts::Piece;
