@@ -1,0 +1,37 @@
+-- The command that answers one AppendRows body over a table of opaque rows.
+use Rattle.std.specs.Prelude.{◌≡◌, ℕ, Bool, List, [], Option, Some, is_some, IfSome}
+use Rattle.outside.specs.Faults.{Rose}
+use Rattle.table_model.specs.declared.opaque_rows.OpaqueEntry.{OpaqueEntry}
+use Rattle.call_body.specs.declared.ends.BodyEnd.{BodyEnd}
+use Rattle.call_body.specs.declared.ends.BodyEnd.TheVariants as ends
+use Rattle.bqstored.specs.declared.requests.Request.{Request}
+use Rattle.bqstored.specs.Request.{request_of}
+use Rattle.bqstored.specs.Reply.{reply_at, history_behind}
+use Rattle.call_body.specs.Ends.{EndsAs, Writes, ReadsAll, HasCause, IsGoodBody, IsDoneOrMemory}
+
+-- a message that can be read
+abbrev pub is_readable : List ℕ → Bool
+is_readable message = is_some (request_of message)
+
+-- the table's answer to a message: its reply at the history, and the history behind it
+abbrev pub AnswersFromTable : List OpaqueEntry → List ℕ → List ℕ → List OpaqueEntry → Type 0
+AnswersFromTable history message reply next =
+    (request : Request) × (request_of message ≡ Some request) × (reply ≡ reply_at history request) × (next ≡ history_behind history request)
+
+-- One run over a source and a sink: what was written is the framed replies, in order, to the messages read, each answered
+-- over the appends accepted before it; after a fault or want of memory it is the first bytes of these.
+pub record BodyRan (left0 left taken0 taken : Option (List ℕ)) (source_faults0 source_faults sink_faults0 sink_faults : ℕ) (end : BodyEnd) : Type 0 where
+  pub ending : (replied : List ℕ) × Writes taken0 taken replied end
+      × IfSome left0 (λ bytes. (history : List OpaqueEntry) × EndsAs is_readable AnswersFromTable bytes replied [] history end)
+  pub cause : HasCause source_faults0 source_faults sink_faults0 sink_faults end
+  pub read : ReadsAll left0 left end
+  pub complete : IfSome left0 (λ bytes. IsGoodBody is_readable bytes → (Rose source_faults0 source_faults → ⊥) → (Rose sink_faults0 sink_faults → ⊥) → IsDoneOrMemory end)
+
+-- the status of the program
+abbrev pub status_of : BodyEnd → ℕ
+status_of ends.Done = 0
+status_of ends.Outside = 3
+status_of ends.Memory = 4
+status_of ends.Refused = 5
+status_of ends.Cut = 6
+status_of ends.Long = 7

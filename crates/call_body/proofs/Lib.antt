@@ -1,0 +1,5 @@
+pub mod ReadsLemmas
+pub mod At
+pub mod Exits
+pub mod StepLemmas
+pub mod Complete

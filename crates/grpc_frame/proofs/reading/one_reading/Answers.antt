@@ -1,0 +1,12 @@
+use Rattle.grpc_frame.proofs.PartLemmas.{part_of-stays}
+use Rattle.grpc_frame.proofs.MessagesLemmas.{Messages-unique, Messages-some}
+use Rattle.grpc_frame.proofs.reading.one_reading.Goals as goal
+
+pub returns-clause-some : goal.returns-clause-some
+returns-clause-some c = Messages-some
+
+pub returns-clause-unique : goal.returns-clause-unique
+returns-clause-unique c = Messages-unique
+
+pub returns-clause-stays : goal.returns-clause-stays
+returns-clause-stays c = part_of-stays

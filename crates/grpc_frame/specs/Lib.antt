@@ -1,0 +1,6 @@
+pub mod Frame
+pub mod Part
+pub mod Messages
+pub mod Held
+pub mod Front
+pub mod Started

@@ -1,0 +1,12 @@
+-- Readings in a row: each goes on where the one before it ended, and one that fails ends all.
+use Rattle.std.specs.Prelude.{◌≡◌, Option, Some, None}
+
+infixl 10 ◌>>=◌
+abbrev pub ◌>>=◌ : {A B : Type 0} → Option A → (A → Option B) → Option B
+(Some x) >>= f = f x
+None >>= f = None
+
+-- What a reader returned, seen by view, is what the definition gives.
+abbrev pub Gives : {X Y : Type 0} → (X → Y) → Option X → Option Y → Type 0
+Gives view (Some x) read = read ≡ Some (view x)
+Gives view None read = read ≡ None

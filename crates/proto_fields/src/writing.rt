@@ -1,0 +1,79 @@
+ghost use Rattle.std.specs.Prelude.{◌≡◌, ◌≤◌, ◌+◌, ◌++◌, List, [], length, Ok, OnOk, OnErr};
+ghost use Rattle.std.specs.List.{AllByRecursion};
+ghost use Rattle.proto_fields.specs.Record.{Record, Varint, Len, record_bytes};
+ghost use Rattle.proto_fields.specs.Message.{fields_of, message_of, HasSpelling};
+
+use super::varints::{MOST_BYTES, put_varint};
+use outside::{Blob, Memory};
+use std::alloc::Global;
+use std::marker::Model;
+
+/// A message being written. Contracts see the bytes so far.
+///
+/// Tags and numbers are written as the shortest varints. A call that answers `Memory` has written
+/// nothing.
+#[derive(Drop)]
+pub struct Out {
+    bytes: Vec<u8>,
+}
+
+impl Model for Out {
+    ghost use Rattle.std.specs.Prelude.{List, ℕ};
+
+    ghost Value = { List ℕ };
+
+    ghost view = { λ out. out.bytes.items };
+}
+
+impl Out {
+    /// An empty message.
+    pub fn new(alloc: Global) -> Out
+        ensures { result ≡ [] }
+    {
+        Out {
+            bytes: Vec::new(alloc),
+        }
+    }
+
+    /// Writes a field of wire type 0. Its number is 1 to 536,870,911.
+    pub fn varint(&mut self, _alloc: Global, number: u32, v: u64) -> Result<(), Memory>
+        requires low { 1 ≤ number }
+        requires high { number ≤ 536870911 }
+        ensures ok { OnOk result (self.new ≡ self.old ++ record_bytes (record { number = number; payload = Varint v })) }
+        ensures err { OnErr result (self.new ≡ self.old) }
+        ensures size { length self.new ≤ length self.old + 15 }
+    {
+        self.bytes.reserve(2 * MOST_BYTES)?;
+        put_varint(&mut self.bytes, number as u64 * 8);
+        put_varint(&mut self.bytes, v);
+        Ok(())
+    }
+
+    /// Writes a field of wire type 2. Its number is 1 to 536,870,911.
+    pub fn bytes(&mut self, _alloc: Global, number: u32, v: &[u8]) -> Result<(), Memory>
+        requires low { 1 ≤ number }
+        requires high { number ≤ 536870911 }
+        ensures ok { OnOk result (self.new ≡ self.old ++ record_bytes (record { number = number; payload = Len v.now })) }
+        ensures err { OnErr result (self.new ≡ self.old) }
+        ensures size { length self.new ≤ length self.old + length v.now + 15 }
+    {
+        self.bytes.reserve(2 * MOST_BYTES + v.len())?;
+        put_varint(&mut self.bytes, number as u64 * 8 + 2);
+        put_varint(&mut self.bytes, v.len() as u64);
+        self.bytes.extend_from_slice(v).unwrap();
+        Ok(())
+    }
+
+    /// The message.
+    pub fn finish(self) -> Blob
+        ensures { result ≡ self }
+    {
+        Blob::from_vec(self.bytes)
+    }
+}
+
+/// What [`Out`] writes, [`fields`](super::fields) reads back: records in their shortest spelling
+/// are the fields of the message that they make.
+pub fn reads_back()
+    ensures { (records : List Record) → AllByRecursion HasSpelling records → fields_of (message_of records) ≡ Ok records }
+{}
