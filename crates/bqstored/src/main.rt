@@ -12,15 +12,41 @@ mod nested;
 mod replies;
 mod requests;
 mod tables;
+#[cfg(test)]
+mod tests;
 
-use commands::run;
+use commands::{USAGE, run};
 use outside::{StdSink, StdSource};
+use std::env;
+use std::io;
+use std::io::ErrorKind;
 use std::process::ExitCode;
-use std::{env, io};
 
-fn main(rt: HostRuntime) -> io::Result<ExitCode> {
-    let words: Vec<String> = env::args(&rt)?.skip(1).collect(rt.alloc())?;
-    let mut input = StdSource::new(rt.reader());
-    let mut out = StdSink::new(io::writer(&rt));
-    Ok(ExitCode::from(run(rt.alloc(), words.as_slice(), &mut input, &mut out)))
+/// The status of want of memory.
+const WANT_OF_MEMORY: u8 = 4;
+
+/// The words behind the program's name.
+fn words(rt: &HostRuntime) -> io::Result<Vec<String>> {
+    Ok(env::args(rt)?.skip(1).collect(rt.alloc())?)
+}
+
+/// The status of a run over standard input and output.
+fn status(rt: &HostRuntime) -> u8 {
+    match words(rt) {
+        Ok(words) => {
+            let mut input = StdSource::new(rt.reader());
+            let mut out = StdSink::new(io::writer(rt));
+            run(rt.alloc(), words.as_slice(), &mut input, &mut out)
+        }
+        Err(fault) if fault.kind() == ErrorKind::OutOfMemory => WANT_OF_MEMORY,
+        Err(_) => USAGE,
+    }
+}
+
+fn main(rt: HostRuntime) -> ExitCode {
+    let status = status(&rt);
+    if status == USAGE {
+        let _ = eprintln!(rt; "usage: bqstored body < BODY > REPLIES");
+    }
+    ExitCode::from(status)
 }

@@ -17,6 +17,8 @@ mod scripts;
 mod sinks;
 mod sources;
 mod std_streams;
+#[cfg(test)]
+mod tests;
 mod texts;
 mod wants;
 

@@ -9,6 +9,8 @@
 mod limits;
 mod opaque_rows;
 mod reasons;
+#[cfg(test)]
+mod tests;
 
 pub use limits::{MAX_ENTRIES, MAX_WEIGHT, ROW_OVERHEAD};
 pub use opaque_rows::{AppendFault, Opaque, OpaqueEntry};

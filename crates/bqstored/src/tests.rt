@@ -1,0 +1,185 @@
+ghost use Rattle.std.specs.Prelude.{◌<◌, ◌≤◌, length, None};
+ghost use Rattle.outside.specs.Streams.{IsReadWithin, ReadTakes, ReadCause, IsWriteWithin, WriteAdds, WriteCause};
+
+use crate::commands::run;
+use outside::{MemSink, MemSource, Sink, SinkWrite, Source, SourceRead};
+use std::alloc::Global;
+use std::process::Abort;
+use std::test::Fail;
+
+/// A source in memory that gives at most so many bytes at a time, and meets a fault where its calls
+/// are used up.
+#[derive(Drop)]
+struct Slow {
+    inner: MemSource,
+    most: usize,
+    calls: usize,
+    count: u64,
+}
+
+impl Source for Slow {
+    ghost left = { λ _. None };
+
+    ghost faults = { λ s. s.count };
+
+    fn read(&mut self, into: &mut [u8]) -> SourceRead {
+        let want = into.len().min(self.most.max(1));
+        if self.calls > 0 {
+            self.calls -= 1;
+            match self.inner.read(&mut into[..want]) {
+                SourceRead::Failed => {}
+                answer => return answer,
+            }
+        }
+        self.count = self.count.saturating_add(1);
+        SourceRead::Failed
+    }
+}
+
+/// A sink in memory of the same kind.
+#[derive(Drop)]
+struct Narrow {
+    inner: MemSink,
+    most: usize,
+    calls: usize,
+    count: u64,
+}
+
+impl Sink for Narrow {
+    ghost taken = { λ _. None };
+
+    ghost faults = { λ s. s.count };
+
+    fn write(&mut self, from: &[u8]) -> SinkWrite {
+        let want = from.len().min(self.most.max(1));
+        if self.calls > 0 {
+            self.calls -= 1;
+            match self.inner.write(&from[..want]) {
+                SinkWrite::Failed => {}
+                answer => return answer,
+            }
+        }
+        self.count = self.count.saturating_add(1);
+        SinkWrite::Failed
+    }
+}
+
+const MANY: usize = 1_000;
+
+/// What the command `body` writes for an input, and its status.
+fn answer(
+    alloc: Global,
+    input: &[u8],
+    most: usize,
+    reads: usize,
+    writes: usize,
+) -> Result<(u8, Narrow), Fail> {
+    let words = vec![in alloc; String::from_str(alloc, "body")?]?;
+    let mut source = Slow {
+        inner: MemSource::new(
+            alloc,
+            input.to_vec(alloc)?,
+            Vec::new(alloc),
+        ),
+        most,
+        calls: reads,
+        count: 0,
+    };
+    let mut sink = Narrow {
+        inner: MemSink::new(alloc, Vec::new(alloc)),
+        most,
+        calls: writes,
+        count: 0,
+    };
+    let status = run(alloc, words.as_slice(), &mut source, &mut sink);
+    Ok((status, sink))
+}
+
+/// Whole and byte by byte, the input has this output and status.
+fn expect<R: Abort + AllocGlobal>(
+    rt: &R,
+    input: &[u8],
+    output: &[u8],
+    status: u8,
+) -> Result<(), Fail> {
+    for most in [MANY, 1] {
+        let (found, sink) = answer(rt.alloc(), input, most, MANY, MANY)?;
+        assert_eq!(rt; found, status);
+        assert_eq!(rt; sink.inner.taken(), output);
+    }
+    Ok(())
+}
+
+const FIRST: &[u8] = b"\x00\x00\x00\x00\x0a\x12\x00\x22\x06\x12\x04\x0a\x02\x08\x01";
+const FIRST_TWICE: &[u8] = b"\x00\x00\x00\x00\x0a\x12\x00\x22\x06\x12\x04\x0a\x02\x08\x01\x00\x00\x00\x00\x0a\x12\x00\x22\x06\x12\x04\x0a\x02\x08\x01";
+const AT_TWO_THEN_ONE: &[u8] = b"\x00\x00\x00\x00\x0a\x12\x00\x22\x06\x12\x04\x0a\x02\x08\x01\x00\x00\x00\x00\x0c\x12\x02\x08\x02\x22\x06\x12\x04\x0a\x02\x08\x01\x00\x00\x00\x00\x0c\x12\x02\x08\x01\x22\x06\x12\x04\x0a\x02\x08\x01";
+const MINUS_ONE: &[u8] = b"\x00\x00\x00\x00\x15\x12\x0b\x08\xff\xff\xff\xff\xff\xff\xff\xff\xff\x01\x22\x06\x12\x04\x0a\x02\x08\x01";
+
+#[test]
+fn offsets_are_kept(rt: HostRuntime) -> Result<(), Fail> {
+    expect(&rt, FIRST, b"\x00\x00\x00\x00\x04\x0a\x02\x0a\x00", 0)?;
+    expect(
+        &rt,
+        FIRST_TWICE,
+        b"\x00\x00\x00\x00\x04\x0a\x02\x0a\x00\x00\x00\x00\x00\x1c\x12\x1a\x08\x06\x12\x16offset already written",
+        0,
+    )?;
+    expect(
+        &rt,
+        AT_TWO_THEN_ONE,
+        b"\x00\x00\x00\x00\x04\x0a\x02\x0a\x00\x00\x00\x00\x00\x19\x12\x17\x08\x0b\x12\x13offset past the end\x00\x00\x00\x00\x06\x0a\x04\x0a\x02\x08\x01",
+        0,
+    )
+}
+
+#[test]
+fn refusals_are_replies(rt: HostRuntime) -> Result<(), Fail> {
+    expect(
+        &rt,
+        b"\x00\x00\x00\x00\x00",
+        b"\x00\x00\x00\x00\x0d\x12\x0b\x08\x03\x12\x07no rows",
+        0,
+    )?;
+    expect(
+        &rt,
+        MINUS_ONE,
+        b"\x00\x00\x00\x00\x15\x12\x13\x08\x03\x12\x0fnegative offset",
+        0,
+    )
+}
+
+#[test]
+fn a_body_ends_in_its_place(rt: HostRuntime) -> Result<(), Fail> {
+    expect(&rt, b"", b"", 0)?;
+    expect(&rt, b"\x00\x00\x00", b"", 6)?;
+    expect(&rt, b"\x01", b"", 5)?;
+    expect(&rt, b"\x00\x00\xa0\x00\x01", b"", 5)?;
+    expect(&rt, b"\x00\x00\xa0\x00\x00", b"", 6)?;
+    expect(&rt, b"\x00\x00\x00\x00\x03\x0a\x01\xff", b"", 5)?;
+    expect(&rt, b"\x00\x00\x00\x00\x02\x2a\x00", b"", 5)
+}
+
+#[test]
+fn a_fault_has_its_status(rt: HostRuntime) -> Result<(), Fail> {
+    for n in 0..FIRST.len() {
+        let (status, _sink) = answer(rt.alloc(), FIRST, 1, n, MANY)?;
+        assert_eq!(rt; status, 3);
+    }
+    for n in 0..9 {
+        let (status, sink) = answer(rt.alloc(), FIRST, 1, MANY, n)?;
+        assert_eq!(rt; status, 3);
+        assert_eq!(rt; sink.inner.taken().len(), n);
+    }
+    Ok(())
+}
+
+#[test]
+fn other_words_do_nothing(rt: HostRuntime) -> Result<(), Fail> {
+    let words = vec![in rt.alloc(); String::from_str(rt.alloc(), "pipe")?]?;
+    let mut source = MemSource::new(rt.alloc(), FIRST.to_vec(rt.alloc())?, Vec::new(rt.alloc()));
+    let mut sink = MemSink::new(rt.alloc(), Vec::new(rt.alloc()));
+    assert_eq!(rt; run(rt.alloc(), words.as_slice(), &mut source, &mut sink), 2);
+    assert_eq!(rt; run(rt.alloc(), &[], &mut source, &mut sink), 2);
+    assert_eq!(rt; sink.taken().len(), 0);
+    Ok(())
+}

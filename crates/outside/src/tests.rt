@@ -1,0 +1,54 @@
+use crate::{
+    Blob, Blobs, MemSink, MemSource, Piece, Sink, SinkWrite, Source, SourceRead, StdSink,
+    StdSource, Text,
+};
+use std::test::Fail;
+
+#[test]
+fn a_source_follows_its_script(rt: HostRuntime) -> Result<(), Fail> {
+    let pieces = vec![in rt.alloc(); Piece::UpTo(2), Piece::Fail]?;
+    let mut source = MemSource::new(rt.alloc(), b"abcdef".to_vec(rt.alloc())?, pieces);
+    let mut into = [0u8; 3];
+    assert_eq!(rt; source.read(&mut into), SourceRead::Got(2));
+    assert_eq!(rt; &into, b"ab\0");
+    assert_eq!(rt; source.read(&mut into), SourceRead::Failed);
+    assert_eq!(rt; source.read(&mut into), SourceRead::Got(3));
+    assert_eq!(rt; &into, b"cde");
+    assert_eq!(rt; source.read(&mut into), SourceRead::Got(1));
+    assert_eq!(rt; source.read(&mut into), SourceRead::End);
+    Ok(())
+}
+
+#[test]
+fn a_sink_follows_its_script(rt: HostRuntime) -> Result<(), Fail> {
+    let mut sink = MemSink::new(
+        rt.alloc(),
+        vec![in rt.alloc(); Piece::UpTo(1), Piece::Fail]?,
+    );
+    assert_eq!(rt; sink.write(b"xyz"), SinkWrite::Took(1));
+    assert_eq!(rt; sink.write(b"yz"), SinkWrite::Failed);
+    assert_eq!(rt; sink.write(b"yz"), SinkWrite::Took(2));
+    assert_eq!(rt; sink.taken(), b"xyz".as_slice());
+    Ok(())
+}
+
+#[test]
+fn the_streams_of_std_are_passed_on(rt: HostRuntime) -> Result<(), Fail> {
+    let mut source = StdSource::new(b"ab".as_slice());
+    let mut into = [0u8; 4];
+    assert_eq!(rt; source.read(&mut into), SourceRead::Got(2));
+    assert_eq!(rt; source.read(&mut into), SourceRead::End);
+    let bytes: Vec<u8> = Vec::new(rt.alloc());
+    assert_eq!(rt; StdSink::new(bytes).write(b"ab"), SinkWrite::Took(2));
+    Ok(())
+}
+
+#[test]
+fn small_types_hold_their_bytes(rt: HostRuntime) -> Result<(), Fail> {
+    let blob = Blob::of(rt.alloc(), b"ab")?;
+    assert_eq!(rt; blob.bytes(), b"ab".as_slice());
+    let blobs = Blobs::from_vec(vec![in rt.alloc(); blob]?);
+    assert_eq!(rt; blobs.blobs().len(), 1);
+    assert_eq!(rt; Text::of(rt.alloc(), "ab")?.text(), "ab");
+    Ok(())
+}
