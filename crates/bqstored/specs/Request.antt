@@ -6,7 +6,7 @@ use Rattle.std.specs.Result.{result_ok}
 use Rattle.proto_fields.specs.Record.{Record}
 use Rattle.proto_fields.specs.Chain.{◌>>=◌}
 use Rattle.proto_fields.specs.Message.{fields_of}
-use Rattle.proto_fields.specs.Selection.{joined, last_of, payloads_of, varints_of}
+use Rattle.proto_fields.specs.Selection.{merged_of, last_of, payloads_of, varints_of}
 use Rattle.bqstored.specs.declared.requests.Request.{Request}
 use Rattle.bqstored.specs.declared.requests.RequestFault.{RequestFault}
 use Rattle.bqstored.specs.declared.requests.RequestFault.TheVariants as fault
@@ -18,7 +18,7 @@ records_of bytes = result_ok (fields_of bytes)
 
 -- a message within a message: all its occurrences joined, and no field where there is none
 abbrev pub inner_records : ℕ → List Record → Option (List Record)
-inner_records number records = records_of (unwrap_or (joined (payloads_of number records)) [])
+inner_records number records = records_of (unwrap_or (merged_of (payloads_of number records)) [])
 
 -- an Int64Value: absent, or the number that its field 1 gives, which is 0 where it has none
 abbrev pub wrapped_int64 : Option (List ℕ) → Option (Option ℤ)
@@ -44,7 +44,7 @@ rows_in records = do
 -- what the fields of an AppendRowsRequest ask
 abbrev pub request_in : List Record → Option Request
 request_in records = do
-  offset ← wrapped_int64 (joined (payloads_of OFFSET records))
+  offset ← wrapped_int64 (merged_of (payloads_of OFFSET records))
   rows ← rows_in records
   Some (record { offset = offset; rows = rows })
 

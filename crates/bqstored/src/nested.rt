@@ -1,5 +1,5 @@
 ghost use Rattle.std.specs.Prelude.{◌≡◌, ◌≤◌, ◌+◌, [], length, map, sum_by, unwrap_or, IfOk, All};
-ghost use Rattle.proto_fields.specs.Selection.{joined, payloads_of};
+ghost use Rattle.proto_fields.specs.Selection.{merged_of, payloads_of};
 ghost use Rattle.proto_fields.specs.Spans.{IsWithin, part, records_in, payload_size};
 ghost use Rattle.bqstored.specs.Inner.{bytes_of};
 
@@ -36,7 +36,7 @@ pub(crate) fn inner_message<'a>(
 ) -> Result<Inner<'a>, Memory>
     requires within { All (IsWithin (length bytes.now)) fields.now }
     requires size { sum_by payload_size fields.now ≤ length bytes.now }
-    ensures joined { IfOk result (λ found. bytes_of found ≡ unwrap_or (joined (payloads_of number (records_in bytes.now fields.now))) []) }
+    ensures joined { IfOk result (λ found. bytes_of found ≡ unwrap_or (merged_of (payloads_of number (records_in bytes.now fields.now))) []) }
     ensures size { IfOk result (λ found. length (bytes_of found) ≤ length bytes.now) }
 {
     let spans = all_bytes(alloc, fields, number)?;

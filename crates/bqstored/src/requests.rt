@@ -1,5 +1,5 @@
 ghost use Rattle.std.specs.Prelude.{◌≡◌, ◌≤◌, ◌<◌, ◌^◌, length, sum_by, All, IfOk};
-ghost use Rattle.proto_fields.specs.Selection.{joined, last_of, payloads_of};
+ghost use Rattle.proto_fields.specs.Selection.{last_of, merged_of, payloads_of};
 ghost use Rattle.proto_fields.specs.Spans.{IsWithin, records_in, payload_size};
 ghost use Rattle.bqstored.specs.Request.{ReadsAs, request_of, wrapped_int64, is_text, rows_in, request_in};
 
@@ -100,7 +100,7 @@ fn read_offset(alloc: Global, message: &[u8], found: &[Field]) -> Result<Option<
     requires small { length message.now < 2 ^ 32 }
     requires within { All (IsWithin (length message.now)) found.now }
     requires size { sum_by payload_size found.now ≤ length message.now }
-    ensures { ReadsAs (λ o. o) result (wrapped_int64 (joined (payloads_of OFFSET (records_in message.now found.now)))) }
+    ensures { ReadsAs (λ o. o) result (wrapped_int64 (merged_of (payloads_of OFFSET (records_in message.now found.now)))) }
 {
     let Some(value) = merged(alloc, message, found, OFFSET)? else {
         return Ok(None);

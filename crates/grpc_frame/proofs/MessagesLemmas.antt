@@ -37,17 +37,18 @@ message_is m n same = cc
 frame-left : (m n rest behind : List ℕ) → m ≡ n → frame m ++ rest ≡ frame n ++ behind → rest ≡ behind
 frame-left m n rest behind same is = append_cancel_left (frame m) rest behind (is ∙ ap (λ l. frame l ++ behind) (sym same))
 
-joins : (message : List ℕ) (messages : List (List ℕ)) (rest : List ℕ) → framed (message ∷ messages) ++ rest ≡ frame message ++ (framed messages ++ rest)
-joins message messages rest = grind (arith, common_steps)
+-- one message more before them
+pub framed-cons : (message : List ℕ) (messages : List (List ℕ)) (rest : List ℕ) → framed (message ∷ messages) ++ rest ≡ frame message ++ (framed messages ++ rest)
+framed-cons message messages rest = grind (arith, common_steps)
 
 same_messages : (limit : ℕ) (a b : List (List ℕ)) (x y : List ℕ) → limit < 2 ^ 32 → AllByRecursion (IsWithin limit) a → AllByRecursion (IsWithin limit) b → (IsMessage (part_of limit x) → ⊥) → (IsMessage (part_of limit y) → ⊥) → framed a ++ x ≡ framed b ++ y → (a ≡ b) × (x ≡ y)
 same_messages limit [] [] x y small each_a each_b ends_x ends_y is = (refl, is)
 same_messages limit [] (n ∷ b) x y small each_a each_b ends_x ends_y is =
-    absurd (begins limit n (framed b ++ y) x small each_b.0 (is ∙ joins n b y) ends_x)
+    absurd (begins limit n (framed b ++ y) x small each_b.0 (is ∙ framed-cons n b y) ends_x)
 same_messages limit (m ∷ a) [] x y small each_a each_b ends_x ends_y is =
-    absurd (begins limit m (framed a ++ x) y small each_a.0 (sym is ∙ joins m a x) ends_y)
+    absurd (begins limit m (framed a ++ x) y small each_a.0 (sym is ∙ framed-cons m a x) ends_y)
 same_messages limit (m ∷ a) (n ∷ b) x y small each_a each_b ends_x ends_y is =
-    let joined : frame m ++ (framed a ++ x) ≡ frame n ++ (framed b ++ y) = sym (joins m a x) ∙ is ∙ joins n b y in
+    let joined : frame m ++ (framed a ++ x) ≡ frame n ++ (framed b ++ y) = sym (framed-cons m a x) ∙ is ∙ framed-cons n b y in
     let first : m ≡ n = message_is m n (sym (part_of-frame limit m (framed a ++ x) small each_a.0) ∙ ap (part_of limit) joined ∙ part_of-frame limit n (framed b ++ y) small each_b.0) in
     let others : (a ≡ b) × (x ≡ y) = same_messages limit a b x y small each_a.1 each_b.1 ends_x ends_y (frame-left m n _ _ first joined) in
     (rw (first, others.0) refl, others.1)
@@ -60,8 +61,9 @@ within-more : (limit : ℕ) (messages : List (List ℕ)) (message : List ℕ) �
 within-more limit [] message each within = (within, tt)
 within-more limit (m ∷ messages) message each within = (each.0, within-more limit messages message each.1 within)
 
-joins_end : (messages : List (List ℕ)) (message rest : List ℕ) → framed (messages ++ message ∷ []) ++ rest ≡ framed messages ++ (frame message ++ rest)
-joins_end messages message rest = grind (arith, common_steps)
+-- one message more behind them
+pub framed-snoc : (messages : List (List ℕ)) (message rest : List ℕ) → framed (messages ++ message ∷ []) ++ rest ≡ framed messages ++ (frame message ++ rest)
+framed-snoc messages message rest = grind (arith, common_steps)
 
 -- whole messages stand before a rest
 abbrev pub Begins : ℕ → List ℕ → List ℕ → Type 0
@@ -76,7 +78,7 @@ Begins-more limit len body rest before spelled =
     ap (λ n. take n (drop (5 + len) rest)) (sym (length-drop (5 + len) rest)) ∙ take-length (drop (5 + len) rest)
     in
     let joined : body ≡ framed (before.0 ++ message ∷ []) ++ drop (5 + len) rest =
-    before.1 ∙ ap (λ l. framed before.0 ++ l) spelled.2 ∙ sym (joins_end before.0 message (drop (5 + len) rest))
+    before.1 ∙ ap (λ l. framed before.0 ++ l) spelled.2 ∙ sym (framed-snoc before.0 message (drop (5 + len) rest))
     in
     (before.0 ++ message ∷ [], rw behind joined, within-more limit before.0 message before.2 within)
 
@@ -102,7 +104,7 @@ message_before limit body message rest spelled within read = (
   message ∷ read.0,
   read.1,
   record {
-    whole = spelled ∙ ap (λ l. frame message ++ l) read.2.whole ∙ sym (joins message read.0 read.1);
+    whole = spelled ∙ ap (λ l. frame message ++ l) read.2.whole ∙ sym (framed-cons message read.0 read.1);
     each = (within, read.2.each);
     ends = read.2.ends;
   },
@@ -141,7 +143,7 @@ reading_behind : (limit : ℕ) (message rest : List ℕ) (messages : List (List 
 reading_behind limit message rest [] behind small within read =
     absurd (begins limit message rest behind small within (sym read.whole) read.ends)
 reading_behind limit message rest (m ∷ messages) behind small within read =
-    let joined : frame message ++ rest ≡ frame m ++ (framed messages ++ behind) = read.whole ∙ joins m messages behind in
+    let joined : frame message ++ rest ≡ frame m ++ (framed messages ++ behind) = read.whole ∙ framed-cons m messages behind in
     let first : message ≡ m =
     message_is message m (sym (part_of-frame limit message rest small within) ∙ ap (part_of limit) joined ∙ part_of-frame limit m (framed messages ++ behind) small read.each.0)
     in

@@ -1,4 +1,4 @@
--- A part whose message still lies in the bytes that it was read from.
+-- For the crate's own functions: a part whose message still lies in the bytes that it was read from.
 use Rattle.std.specs.Prelude.{◌≡◌, ◌≤◌, ◌<◌, ◌+◌, ℕ, List, ◌++◌, length, take, drop}
 use Rattle.grpc_frame.specs.declared.part.Part.{Part}
 use Rattle.grpc_frame.specs.declared.part.Part.TheVariants as parts

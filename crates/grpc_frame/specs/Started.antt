@@ -1,8 +1,9 @@
--- A message whose flag and length have come, and the bytes of a body that it stands for.
+-- For the crate's own functions: a message whose flag and length have come.
 use Rattle.std.specs.Prelude.{◌≡◌, ◌<◌, ◌≤◌, ◌+◌, ◌-◌, ℕ, List, [], ◌++◌, Option, Some, None, vec_len, vec_capacity}
 use Rattle.grpc_frame.specs.declared.started.Started.{Started}
 use Rattle.grpc_frame.specs.Frame.{prefix_of}
 
+-- the bytes of the body that it stands for
 abbrev pub started_bytes : Option Started → List ℕ
 started_bytes None = []
 started_bytes (Some message) = prefix_of message.len ++ message.bytes.items

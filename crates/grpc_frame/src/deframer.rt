@@ -13,6 +13,10 @@ use std::marker::Model;
 /// Reads the messages of one body, which comes in any pieces.
 ///
 /// Contracts see the limit and the bytes that are held: those fed and not yet given as a message.
+///
+/// A message that lies whole in what was fed is copied once more as it is given. Of one that comes
+/// in more pieces, room for the whole is asked for once its length has come; it is filled in place
+/// and given without a copy. No other byte is moved more often than once for each byte given.
 #[derive(Drop)]
 pub struct Deframer {
     limit: u32,
@@ -33,7 +37,8 @@ impl Model for Deframer {
 
     ghost view = { λ d. record { limit = d.limit; bytes = started_bytes d.started ++ drop d.given d.bytes.items } };
 
-    ghost invariant = { λ d. (d.limit < 2 ^ 32) × (d.given ≤ vec_len d.bytes) × IsStarted d.limit d.started (drop d.given d.bytes.items) };
+    ghost invariant = { λ d. (d.limit < 2 ^ 32) × (d.given ≤ vec_len d.bytes)
+        × IsStarted d.limit d.started (drop d.given d.bytes.items) };
 }
 
 impl Deframer {

@@ -5,3 +5,4 @@ pub mod MessageLemmas
 pub mod SelectionLemmas
 pub mod RoundTrip
 pub mod PlaceLemmas
+pub mod MessageLaws

@@ -1,12 +1,12 @@
 -- Messages, read record by record.
-use Rattle.std.proofs.Common.{◌≡◌, ℕ, zero, suc, ◌+◌, ◌-◌, ◌<◌, ◌≤◌, List, [], ◌∷◌, ◌++◌, length, take, drop, map, Option, Some, None, Result, Ok, Err, refl, sym, ap, ◌∙◌, append_assoc, length-drop, All, sum_by, arith}
+use Rattle.std.proofs.Common.{◌≡◌, ℕ, zero, suc, ◌+◌, ◌-◌, ◌<◌, ◌≤◌, List, [], ◌∷◌, ◌++◌, length, drop, map, Some, None, Result, Ok, Err, refl, sym, ap, ◌∙◌, append_assoc, length-drop, All, sum_by, arith}
 use Rattle.std.proofs.lemmas.List.{append-nil, drop_all, map_push}
 use Rattle.std.proofs.lemmas.List.Elements.{All-push}
 use Rattle.std.proofs.lemmas.List.Sums.{sum_by-append}
 use Rattle.proto_fields.specs.declared.field.Field.{Field}
 use Rattle.proto_fields.specs.Record.{Record, record_at}
-use Rattle.proto_fields.specs.Message.{Placed, with_first, first_and, placed_from, placed_of, contents, fields_of}
-use Rattle.proto_fields.specs.Spans.{payload_in, record_in, records_in, value_at, field_at, located, payload_size, IsWithin}
+use Rattle.proto_fields.specs.Message.{Placed, with_first, placed_from, placed_of, contents, fields_of}
+use Rattle.proto_fields.specs.Spans.{payload_in, record_in, records_in, value_at, field_at, located_fields, payload_size, IsWithin}
 use Rattle.proto_fields.proofs.RecordLemmas.{record_at-rest}
 
 -- what was read before, and what is still read
@@ -46,7 +46,7 @@ placed_from-record at (b ∷ bytes) r rest e =
     placed_from-held (length bytes - length rest) (at + 1) bytes (omega arith) ∙ ap (λ (y : List ℕ). placed_from (at + 1 + (length bytes - length rest)) y 0) (sym ending) in
     rw (e, others, place) refl
 
-placed_from-bad : (at : ℕ) (bytes : List ℕ) → 0 < length bytes → record_at bytes ≡ None → placed_from at bytes 0 ≡ Err at
+pub placed_from-bad : (at : ℕ) (bytes : List ℕ) → 0 < length bytes → record_at bytes ≡ None → placed_from at bytes 0 ≡ Err at
 unfolding placed_from
 placed_from-bad at [] some e = absurd (omega arith)
 placed_from-bad at (b ∷ bytes) some e = rw e refl
@@ -112,7 +112,7 @@ HasRead-more message found at next field h e ends within value =
       size = rw (sum_by-append payload_size found (field ∷ [])) (omega (arith, h.size, ends.0));
     }
 
-pub HasRead-all : (message : List ℕ) (found : List Field) (at : ℕ) → HasRead message found at → length message ≤ at → (fields_of message ≡ Ok (records_in message found)) × (located (placed_of message) ≡ Ok found)
+pub HasRead-all : (message : List ℕ) (found : List Field) (at : ℕ) → HasRead message found at → length message ≤ at → (fields_of message ≡ Ok (records_in message found)) × (located_fields (placed_of message) ≡ Ok found)
 HasRead-all message found at h past =
     let all : placed_of message ≡ Ok h.seen = HasSeen-all message h.seen at h.so_far past in
-    (ap contents all ∙ ap (λ (rs : List Record). Ok rs) h.records, ap located all ∙ ap (λ (fs : List Field). Ok fs) h.fields)
+    (ap contents all ∙ ap (λ (rs : List Record). Ok rs) h.records, ap located_fields all ∙ ap (λ (fs : List Field). Ok fs) h.fields)

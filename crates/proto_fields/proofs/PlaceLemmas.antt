@@ -1,8 +1,7 @@
 -- Where the tags of the fields of one number stand.
-use Rattle.std.proofs.Common.{◌≡◌, ℕ, zero, suc, ◌+◌, ◌-◌, ◌<◌, ◌≤◌, Bool, true, false, cond, List, [], ◌∷◌, ◌++◌, length, drop, Option, Some, None, is_some, Result, Ok, Err, IfOk, refl, sym, ap, subst, ◌∙◌, append_assoc, length-append, arith}
+use Rattle.std.proofs.Common.{◌≡◌, ℕ, ◌+◌, ◌-◌, ◌<◌, ◌≤◌, true, false, cond, List, [], ◌∷◌, ◌++◌, length, drop, Option, Some, None, is_some, Result, Ok, Err, IfOk, refl, sym, ap, ◌∙◌, append_assoc, length-append, arith}
 use Rattle.std.specs.Prelude.{slice_get}
 use Rattle.std.specs.Option.{option_map}
-use Rattle.std.specs.List.{filter_map, cons_option}
 use Rattle.std.proofs.lemmas.List.{append-nil}
 use Rattle.std.proofs.lemmas.Option.{slice_get_past, slice_get-get_or}
 use Rattle.std.proofs.Math.Seq.{get_or-append_seam}
@@ -11,7 +10,7 @@ use Rattle.outside.specs.declared.blobs.Span.{Span}
 use Rattle.proto_fields.specs.declared.field.Field.{Field}
 use Rattle.proto_fields.specs.Record.{record_at}
 use Rattle.proto_fields.specs.Message.{Placed, placed_from, placed_of}
-use Rattle.proto_fields.specs.Selection.{bytes_for, last_of, tag_for, tags_of}
+use Rattle.proto_fields.specs.Selection.{last_of, tag_for, tags_of}
 use Rattle.proto_fields.specs.Spans.{part, record_in, span_for}
 use Rattle.proto_fields.proofs.MessageLemmas.{HasSeen, HasSeen-none, HasSeen-more, HasSeen-all, with_front}
 use Rattle.proto_fields.proofs.SelectionLemmas.{bytes_for-record_in, last_of-push}

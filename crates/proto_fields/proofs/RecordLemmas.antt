@@ -1,5 +1,5 @@
 -- Records: where the payload of one that was read lies.
-use Rattle.std.proofs.Common.{◌≡◌, ℕ, ◌+◌, ◌-◌, ◌<◌, ◌≤◌, Bool, true, false, cond, ltb, List, [], ◌∷◌, ◌++◌, length, take, drop, Option, Some, None, refl, sym, ap, subst, ◌∙◌, append_assoc, length-append, length-drop, IfSome, arith}
+use Rattle.std.proofs.Common.{◌≡◌, ℕ, ◌+◌, ◌-◌, ◌<◌, ◌≤◌, cond, ltb, List, [], ◌++◌, length, take, drop, Some, None, refl, sym, ap, subst, ◌∙◌, append_assoc, length-append, length-drop, IfSome, arith}
 use Rattle.std.proofs.lemmas.List.{take-append-drop, length-take-le}
 use Rattle.std.proofs.Math.Seq.{drop-append_seam, take-append_seam, take-length}
 use Rattle.std.specs.Int.{Width, w32, w64, byte_len, from_le_bytes}
@@ -13,7 +13,7 @@ use Rattle.proto_fields.specs.Varint.{varint_at}
 use Rattle.proto_fields.specs.Record.{Payload, Varint, Fixed64, Len, Fixed32, Record, tag_of, tag_at, fixed_at, len_at, payload_at, record_at}
 use Rattle.proto_fields.specs.Raw.{payload_of, raw_size}
 use Rattle.proto_fields.specs.Spans.{part, payload_in, value_at, span_in, size_in}
-use Rattle.proto_fields.proofs.ChainLemmas.{some, some_is, bind_some, unless_some, Behind}
+use Rattle.proto_fields.proofs.ChainLemmas.{some_is, bind_some, unless_some, Behind}
 use Rattle.proto_fields.proofs.VarintLemmas.{varint_at-behind}
 
 -- the bytes that stand in the message as they are

@@ -1,20 +1,20 @@
 -- What is written reads back.
-use Rattle.std.proofs.Common.{◌≡◌, ℕ, zero, suc, ◌+◌, ◌-◌, ◌*◌, ◌/◌, ◌%◌, ◌^◌, ◌<◌, ◌≤◌, Bool, true, false, cond, ltb, leb, ◌&&◌, List, [], ◌∷◌, ◌++◌, length, take, drop, Option, Some, None, Result, Ok, Err, refl, sym, ap, subst, ◌∙◌, inl, inr, append_assoc, length-append, arith}
+use Rattle.std.proofs.Common.{◌≡◌, ℕ, zero, suc, ◌+◌, ◌-◌, ◌*◌, ◌/◌, ◌%◌, ◌^◌, ◌<◌, ◌≤◌, false, ltb, List, [], ◌∷◌, ◌++◌, length, Some, Ok, refl, ap, ◌∙◌, inl, inr, append_assoc, length-append, arith}
 use Rattle.std.proofs.lemmas.Bool.{cases_lt, le-ltb, lt-ltb, le-leb}
-use Rattle.std.proofs.lemmas.List.{take_at, drop_at, append-nil}
+use Rattle.std.proofs.lemmas.List.{take_at, drop_at}
 use Rattle.std.proofs.Math.Nat.{pow-suc}
 use Rattle.std.proofs.lemmas.Nat.{div_below, from_le_bytes-to_le_bytes_4, from_le_bytes-to_le_bytes_8}
 use Rattle.std.specs.Int.{Width, w32, w64, byte_len, to_le_bytes, from_le_bytes}
 use Rattle.std.specs.List.{AllByRecursion}
 use Rattle.proto_fields.specs.declared.tags.WireType.{WireType}
 use Rattle.proto_fields.specs.declared.tags.WireType.TheVariants as wire
-use Rattle.proto_fields.specs.declared.tags.Tag.{Tag}
 use Rattle.proto_fields.specs.Chain.{◌>>=◌}
-use Rattle.proto_fields.specs.Varint.{number_at, low_number_at, varint_at, number_of, varint_of}
+use Rattle.proto_fields.specs.Varint.{number_at, varint_at, number_of, varint_of}
 use Rattle.proto_fields.specs.Record.{Payload, Varint, Fixed64, Len, Fixed32, Record, wire_type_of, tag_of, tag_at, fixed_at, len_at, payload_at, record_at, payload_bytes, wire_number, record_bytes}
-use Rattle.proto_fields.specs.Message.{HasRange, HasSpelling, Placed, placed_from, contents, fields_of, message_of, with_first}
+use Rattle.proto_fields.specs.Message.{HasRange, HasSpelling, placed_from, contents, fields_of, message_of, with_first}
 use Rattle.proto_fields.proofs.RecordLemmas.{record_at-rest}
 use Rattle.proto_fields.proofs.MessageLemmas.{placed_from-record}
+use Rattle.proto_fields.proofs.MessageLaws.{contents-with_first}
 
 -- a number of one byte
 number_at-low : (k n : ℕ) (rest : List ℕ) → n < 128 → number_at (suc k) (number_of (suc k) n ++ rest) ≡ Some (n, rest)
@@ -103,10 +103,6 @@ unfolding record_at
 record_at-record_bytes r rest h =
     let regrouped = append_assoc (varint_of (r.number * 8 + wire_number r.payload)) (payload_bytes r.payload) rest in
     rw (regrouped, tag_at-spelled r (payload_bytes r.payload ++ rest) h, payload_at-spelled r.payload rest h.range) refl
-
-contents-with_first : (p : Placed) (others : Result (List Placed) ℕ) → contents (with_first p others) ≡ with_first p.content (contents others)
-contents-with_first p (Ok placed) = refl
-contents-with_first p (Err at) = refl
 
 -- So are the records of a message.
 contents-placed_from : (at : ℕ) (records : List Record) → AllByRecursion HasSpelling records → contents (placed_from at (message_of records) 0) ≡ Ok records

@@ -1,5 +1,5 @@
 -- Picking the fields of one number, by a loop and as a whole.
-use Rattle.std.proofs.Common.{◌≡◌, ℕ, zero, suc, ◌+◌, ◌<◌, ◌≤◌, Bool, true, false, cond, eqb, List, [], ◌∷◌, ◌++◌, length, get_or, take, drop, map, Option, Some, None, is_some, refl, sym, ap, ◌∙◌, append_assoc, All, IfSome, sum_by, arith}
+use Rattle.std.proofs.Common.{◌≡◌, ℕ, ◌+◌, ◌<◌, ◌≤◌, Bool, true, false, cond, eqb, List, [], ◌∷◌, ◌++◌, length, get_or, take, drop, map, Option, Some, None, is_some, refl, sym, ap, ◌∙◌, append_assoc, All, IfSome, sum_by, arith}
 use Rattle.std.specs.List.{filter_map, concat, cons_option, AllByRecursion}
 use Rattle.std.specs.Option.{option_map}
 use Rattle.std.proofs.lemmas.List.{take_more, take_all, append-nil, map_push, length-append, length-take}
@@ -9,8 +9,7 @@ use Rattle.outside.specs.declared.blobs.Span.{Span}
 use Rattle.proto_fields.specs.declared.field.Field.{Field}
 use Rattle.proto_fields.specs.declared.field.Value.{Value}
 use Rattle.proto_fields.specs.declared.field.Value.TheVariants as value
-use Rattle.proto_fields.specs.Record.{Record}
-use Rattle.proto_fields.specs.Selection.{bytes_in, bytes_for, varint_for, payloads_of, varints_of, last_of, joined}
+use Rattle.proto_fields.specs.Selection.{bytes_in, bytes_for, varint_for, payloads_of, varints_of, last_of, merged_of}
 use Rattle.proto_fields.specs.Spans.{part, payload_in, record_in, records_in, span_in, span_for, spans_of, size_in, payload_size, IsWithin}
 
 -- one more element
@@ -93,20 +92,20 @@ pub span_within : (size number : ℕ) (field : Field) (s : Span) → IsWithin si
 span_within size number field s h e = let found : IfSome (span_for number field) (LiesWithin size) = within_if size (eqb field.number number) (span_in field.value) h in rw e at found
 
 -- Where there is a span the payloads are joined.
-pub joined-payloads_of : (bytes : List ℕ) (number : ℕ) (fields : List Field) → is_some (last_of (spans_of number fields)) ≡ true → joined (payloads_of number (records_in bytes fields)) ≡ Some (concat (map (part bytes) (spans_of number fields)))
-joined-payloads_of bytes number fields h = rw payloads_of-records_in (joined-some (spans_of number fields) h)
+pub merged_of-payloads_of : (bytes : List ℕ) (number : ℕ) (fields : List Field) → is_some (last_of (spans_of number fields)) ≡ true → merged_of (payloads_of number (records_in bytes fields)) ≡ Some (concat (map (part bytes) (spans_of number fields)))
+merged_of-payloads_of bytes number fields h = rw payloads_of-records_in (merged_of-some (spans_of number fields) h)
   where
-    joined-some : (spans : List Span) → is_some (last_of spans) ≡ true → joined (map (part bytes) spans) ≡ Some (concat (map (part bytes) spans))
-    joined-some [] h = absurd cc
-    joined-some (s ∷ spans) h = refl
+    merged_of-some : (spans : List Span) → is_some (last_of spans) ≡ true → merged_of (map (part bytes) spans) ≡ Some (concat (map (part bytes) spans))
+    merged_of-some [] h = absurd cc
+    merged_of-some (s ∷ spans) h = refl
 
-pub joined-none : (bytes : List ℕ) (number : ℕ) (fields : List Field) → is_some (last_of (spans_of number fields)) ≡ false → joined (payloads_of number (records_in bytes fields)) ≡ None
-joined-none bytes number fields h = rw payloads_of-records_in (none (spans_of number fields) h)
+pub merged_of-none : (bytes : List ℕ) (number : ℕ) (fields : List Field) → is_some (last_of (spans_of number fields)) ≡ false → merged_of (payloads_of number (records_in bytes fields)) ≡ None
+merged_of-none bytes number fields h = rw payloads_of-records_in (none (spans_of number fields) h)
   where
-    none : (spans : List Span) → is_some (last_of spans) ≡ false → joined (map (part bytes) spans) ≡ None
+    none : (spans : List Span) → is_some (last_of spans) ≡ false → merged_of (map (part bytes) spans) ≡ None
     none [] h = refl
     none (s ∷ []) h = absurd cc
-    none (s ∷ t ∷ spans) h = let e : joined (map (part bytes) (t ∷ spans)) ≡ None = none (t ∷ spans) h in absurd cc
+    none (s ∷ t ∷ spans) h = let e : merged_of (map (part bytes) (t ∷ spans)) ≡ None = none (t ∷ spans) h in absurd cc
 
 -- a loop over all of the fields has seen them all
 pub spans_of-all : (number n : ℕ) (fields : List Field) → length fields ≤ n → spans_of number (take n fields) ≡ spans_of number fields

@@ -1,11 +1,11 @@
 -- Varints, read and written.
-use Rattle.std.proofs.Common.{◌≡◌, ℕ, zero, suc, ◌+◌, ◌-◌, ◌*◌, ◌/◌, ◌%◌, ◌^◌, ◌<◌, ◌≤◌, Bool, true, false, cond, ltb, List, [], ◌∷◌, ◌++◌, length, get_or, take, drop, Option, Some, None, append_assoc, refl, sym, ap, subst, ◌∙◌, inl, inr, arith, bit_and, bit_or}
+use Rattle.std.proofs.Common.{◌≡◌, ℕ, zero, suc, ◌+◌, ◌-◌, ◌*◌, ◌/◌, ◌%◌, ◌^◌, ◌<◌, ◌≤◌, List, [], ◌∷◌, ◌++◌, length, get_or, take, drop, Option, Some, None, append_assoc, refl, ap, subst, ◌∙◌, inl, inr, arith, bit_and, bit_or}
 use Rattle.std.proofs.lemmas.Nat.{and_mask, or_shifted, div_below}
 use Rattle.std.proofs.Math.Nat.{pow-suc}
 use Rattle.std.proofs.lemmas.Bool.{cases_lt, le-ltb, lt-ltb}
 use Rattle.std.proofs.Math.Seq.{take-length}
 use Rattle.proto_fields.specs.Chain.{◌>>=◌}
-use Rattle.proto_fields.proofs.ChainLemmas.{some, some_is, bind_some, Behind, Behind-first, Behind-more}
+use Rattle.proto_fields.proofs.ChainLemmas.{some, some_is, bind_some, Behind, Behind-first, Behind-more, Behind-drop}
 use Rattle.proto_fields.specs.Varint.{number_at, low_number_at, varint_at, number_of, varint_of}
 
 -- the bytes behind the first, as the code names them
@@ -158,3 +158,44 @@ length-varint_of-small n h = length-small 4 10 n (omega arith)
 pub put_varint_is : (n : ℕ) → number_of 10 n ≡ varint_of n
 unfolding varint_of
 put_varint_is n = refl
+
+-- A number that was read from a few bytes is small.
+number_at-small : (most : ℕ) (bytes : List ℕ) (x : ℕ × List ℕ) → number_at most bytes ≡ Some x → x.0 < 128 ^ (length bytes - length x.1)
+unfolding number_at
+number_at-small zero bytes x e = absurd cc
+number_at-small (suc most) [] x e = absurd cc
+number_at-small (suc most) (b ∷ bytes) x e =
+    elim (cases_lt b 128) [
+      | inl lt ↦
+          let read : some (b, bytes) ≡ Some x = rw (lt-ltb b 128 lt) at e in
+          let one : suc (length bytes) - length bytes ≡ 1 = omega arith in
+          let low : b < 128 ^ (suc (length bytes) - length bytes) = rw one lt in
+          subst (λ (y : ℕ × List ℕ). y.0 < 128 ^ (suc (length bytes) - length y.1)) (some_is (b, bytes) x read) low
+      | inr ge ↦
+          let read : with_low b (number_at most bytes) ≡ Some x = rw (le-ltb b 128 ge) at e in
+          let high = bind_some (number_at most bytes) (λ high. Some (b % 128 + 128 * high.0, high.1)) x read in
+          let found : ℕ × List ℕ = (b % 128 + 128 * high.0.0, high.0.1) in
+          let shorter = (Behind-drop bytes high.0.1 (number_at-behind most bytes high.0 high.1)).1 in
+          let more : suc (length bytes) - length high.0.1 ≡ suc (length bytes - length high.0.1) = omega (arith, shorter) in
+          let below = number_at-small most bytes high.0 high.1 in
+          let whole : b % 128 + 128 * high.0.0 < 128 ^ (suc (length bytes) - length high.0.1) = rw (more, pow-suc) (omega (arith, below)) in
+          subst (λ (y : ℕ × List ℕ). y.0 < 128 ^ (suc (length bytes) - length y.1)) (some_is found x high.2) whole
+    ]
+
+-- what is below a power of 128 has a spelling of so many bytes
+length-varint_of-below : (k n : ℕ) → 0 < k → n < 128 ^ k → length (varint_of n) ≤ k
+unfolding varint_of
+length-varint_of-below zero n some h = absurd (omega arith)
+length-varint_of-below (suc k) n some h = length-small k 10 n h
+
+-- No spelling of a number is shorter than the one that is written.
+pub length-varint_of-shortest : (bytes rest : List ℕ) (n : ℕ) → varint_at bytes ≡ Some (n, rest) → length (varint_of n) + length rest ≤ length bytes
+unfolding varint_at
+length-varint_of-shortest bytes rest n e =
+    let x = bind_some (number_at 10 bytes) (λ n. Some (n.0 % 2 ^ 64, n.1)) (n, rest) e in
+    let shorter = (Behind-drop bytes x.0.1 (number_at-behind 10 bytes x.0 x.1)).1 in
+    let below = number_at-small 10 bytes x.0 x.1 in
+    let least : x.0.0 % 2 ^ 64 < 128 ^ (length bytes - length x.0.1) = omega (arith, below) in
+    let short = length-varint_of-below (length bytes - length x.0.1) (x.0.0 % 2 ^ 64) (omega (arith, shorter)) least in
+    let found : ℕ × List ℕ = (x.0.0 % 2 ^ 64, x.0.1) in
+    subst (λ (y : ℕ × List ℕ). length (varint_of y.0) + length y.1 ≤ length bytes) (some_is found (n, rest) x.2) (omega (arith, short, shorter))

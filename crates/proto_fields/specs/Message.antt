@@ -15,16 +15,16 @@ with_first first (Ok others) = Ok (first ∷ others)
 with_first first (Err at) = Err at
 
 -- The record that begins at a place, of which the first byte is gone already, and then the others.
-abbrev pub first_and : ℕ → List ℕ → Option (Record × List ℕ) → (ℕ → Result (List Placed) ℕ) → Result (List Placed) ℕ
-first_and at bytes None others = Err at
-first_and at bytes (Some read) others =
+abbrev pub first_and_others : ℕ → List ℕ → Option (Record × List ℕ) → (ℕ → Result (List Placed) ℕ) → Result (List Placed) ℕ
+first_and_others at bytes None others = Err at
+first_and_others at bytes (Some read) others =
     with_first (record { tag = at; end = at + 1 + (length bytes - length read.1); content = read.0 }) (others (length bytes - length read.1))
 
 -- The records of the bytes from a place on, of which the first few still belong to the record before.
 unfoldable pub placed_from : ℕ → List ℕ → ℕ → Result (List Placed) ℕ
 placed_from at [] held = Ok []
 placed_from at (b ∷ bytes) (suc held) = placed_from (at + 1) bytes held
-placed_from at (b ∷ bytes) zero = first_and at bytes (record_at (b ∷ bytes)) (placed_from (at + 1) bytes)
+placed_from at (b ∷ bytes) zero = first_and_others at bytes (record_at (b ∷ bytes)) (placed_from (at + 1) bytes)
 
 -- The records of a message where they stand, or the place of the first that can't be read.
 abbrev pub placed_of : List ℕ → Result (List Placed) ℕ

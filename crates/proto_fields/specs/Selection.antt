@@ -1,5 +1,5 @@
 -- What a message says of one field, by its number: fields of another wire type are passed over.
-use Rattle.std.specs.Prelude.{ℕ, List, [], ◌∷◌, ◌++◌, length, ◌==◌, if◌then◌else◌, Option, Some, None}
+use Rattle.std.specs.Prelude.{ℕ, List, [], ◌∷◌, ◌==◌, if◌then◌else◌, Option, Some, None}
 use Rattle.std.specs.List.{filter_map, concat}
 use Rattle.std.specs.Option.{option_map}
 use Rattle.proto_fields.specs.Record.{Payload, Varint, Fixed64, Len, Fixed32, Record}
@@ -46,6 +46,6 @@ last_of (x ∷ []) = Some x
 last_of (x ∷ y ∷ others) = last_of (y ∷ others)
 
 -- of a field that is a message all occurrences are joined
-abbrev pub joined : List (List ℕ) → Option (List ℕ)
-joined [] = None
-joined (first ∷ others) = Some (concat (first ∷ others))
+abbrev pub merged_of : List (List ℕ) → Option (List ℕ)
+merged_of [] = None
+merged_of (first ∷ others) = Some (concat (first ∷ others))

@@ -38,9 +38,9 @@ value_at (Fixed32 n) end = value.Fixed32 n
 abbrev pub field_at : Placed → Field
 field_at p = record { number = p.content.number; value = value_at p.content.payload p.end }
 
-abbrev pub located : Result (List Placed) ℕ → Result (List Field) ℕ
-located (Ok placed) = Ok (map field_at placed)
-located (Err at) = Err at
+abbrev pub located_fields : Result (List Placed) ℕ → Result (List Field) ℕ
+located_fields (Ok placed) = Ok (map field_at placed)
+located_fields (Err at) = Err at
 
 abbrev pub span_in : Value → Option Span
 span_in (value.Varint n) = None

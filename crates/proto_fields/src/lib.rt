@@ -12,6 +12,7 @@
 
 mod faults;
 mod field;
+mod laws;
 mod payloads;
 mod places;
 mod reading;
@@ -22,10 +23,11 @@ mod writing;
 
 pub use faults::FieldFault;
 pub use field::{Field, Value};
+pub use laws::{one_record_after_another, reads_back, varints_are_shortest};
 pub use places::{last_tag, nth_tag};
 pub use reading::fields;
 pub use selecting::{all_bytes, has, last_bytes, last_varint, merged, part};
-pub use writing::{Out, reads_back};
+pub use writing::Out;
 
 #[cfg(test)]
 mod tests;

@@ -2,7 +2,7 @@ ghost use Rattle.std.specs.Prelude.{◌≡◌, ◌+◌, ◌<◌, ◌≤◌, ◌^
 ghost use Rattle.proto_fields.specs.Chain.{Gives};
 ghost use Rattle.proto_fields.specs.Record.{record_at};
 ghost use Rattle.proto_fields.specs.Message.{fields_of, placed_of};
-ghost use Rattle.proto_fields.specs.Spans.{payload_in, record_in, records_in, value_at, located, IsWithin, payload_size, ReadsMessage};
+ghost use Rattle.proto_fields.specs.Spans.{payload_in, record_in, records_in, value_at, located_fields, IsWithin, payload_size, ReadsMessage};
 ghost use Rattle.proto_fields.specs.Raw.{payload_of, raw_size};
 
 use super::faults::FieldFault;
@@ -19,7 +19,7 @@ use std::alloc::Global;
 pub fn fields(alloc: Global, bytes: &[u8]) -> Result<Vec<Field>, FieldFault>
     requires { length bytes.now < 2 ^ 32 }
     ensures exact { ReadsMessage (λ found. records_in bytes.now found.items) result (fields_of bytes.now) }
-    ensures located { ReadsMessage (λ found. found.items) result (located (placed_of bytes.now)) }
+    ensures located { ReadsMessage (λ found. found.items) result (located_fields (placed_of bytes.now)) }
     ensures within { IfOk result (λ found. All (IsWithin (length bytes.now)) found.items) }
     ensures size { IfOk result (λ found. sum_by payload_size found.items ≤ length bytes.now) }
 {

@@ -1,6 +1,6 @@
 ghost use Rattle.std.specs.Prelude.{◌≡◌, ◌≤◌, ◌+◌, ℕ, All, IfOk, IfSome, List, length, map, is_some, sum_by};
 ghost use Rattle.std.specs.Option.{option_map};
-ghost use Rattle.proto_fields.specs.Selection.{varint_for, varints_of, payloads_of, last_of, joined};
+ghost use Rattle.proto_fields.specs.Selection.{varint_for, varints_of, payloads_of, last_of, merged_of};
 ghost use Rattle.proto_fields.specs.Spans.{part, record_in, records_in, span_for, spans_of, payload_size, IsWithin};
 
 use super::field::{Field, Value};
@@ -74,7 +74,7 @@ pub fn merged(
     number: u32,
 ) -> Result<Option<Blob>, Memory>
     requires { All (IsWithin (length bytes.now)) fields.now }
-    ensures bytes { IfOk result (λ found. found ≡ joined (payloads_of number (records_in bytes.now fields.now))) }
+    ensures bytes { IfOk result (λ found. found ≡ merged_of (payloads_of number (records_in bytes.now fields.now))) }
     ensures size { IfOk result (λ found. IfSome found (λ blob. length blob ≤ sum_by payload_size fields.now)) }
 {
     let Some(size) = size_of_all(fields, number) else {

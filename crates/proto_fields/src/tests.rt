@@ -25,6 +25,8 @@ fn reads_the_message_of_the_guide(rt: HostRuntime) -> Result<(), Fail> {
         all_bytes(rt.alloc(), &found, 2)?.as_slice(),
         [span].as_slice()
     );
+    assert_eq!(rt; last_tag(&GUIDE, 2), Some(3));
+    assert_eq!(rt; nth_tag(&GUIDE, 2, 0), Some(3));
     assert!(rt; has(&found, 2));
     assert!(rt; !has(&found, 1), "field 1 has no bytes");
     Ok(())

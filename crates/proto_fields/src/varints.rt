@@ -6,12 +6,16 @@ ghost use Rattle.proto_fields.specs.Varint.{low_number_at, varint_at, number_of,
 pub const MOST_BYTES: usize = 10;
 
 /// The varint at the front, and the bytes behind it.
+// Most varints have one byte or two, so these are read without a call.
 #[tactic(auto, unfolding(crate::specs::Varint::varint_at, crate::specs::Varint::number_at))]
 pub fn varint_at(bytes: &[u8]) -> Option<(u64, &[u8])>
     ensures { Gives (λ x. (x.0, x.1.now)) result (varint_at bytes.now) }
 {
     match bytes {
         [byte, rest @ ..] if *byte < 128 => Some((*byte as u64, rest)),
+        [byte, last, rest @ ..] if *last < 128 => {
+            Some((((*last as u64) << 7) | (*byte & 0x7f) as u64, rest))
+        }
         _ => number_at(MOST_BYTES, bytes),
     }
 }

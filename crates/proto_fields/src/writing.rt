@@ -1,7 +1,5 @@
-ghost use Rattle.std.specs.Prelude.{◌≡◌, ◌≤◌, ◌+◌, ◌++◌, List, [], length, Ok, OnOk, OnErr};
-ghost use Rattle.std.specs.List.{AllByRecursion};
-ghost use Rattle.proto_fields.specs.Record.{Record, Varint, Len, record_bytes};
-ghost use Rattle.proto_fields.specs.Message.{fields_of, message_of, HasSpelling};
+ghost use Rattle.std.specs.Prelude.{◌≡◌, ◌≤◌, ◌+◌, ◌++◌, [], length, OnOk, OnErr};
+ghost use Rattle.proto_fields.specs.Record.{Varint, Len, record_bytes};
 
 use super::varints::{MOST_BYTES, put_varint};
 use outside::{Blob, Memory};
@@ -71,9 +69,3 @@ impl Out {
         Blob::from_vec(self.bytes)
     }
 }
-
-/// What [`Out`] writes, [`fields`](super::fields) reads back: records in their shortest spelling
-/// are the fields of the message that they make.
-pub fn reads_back()
-    ensures { (records : List Record) → AllByRecursion HasSpelling records → fields_of (message_of records) ≡ Ok records }
-{}

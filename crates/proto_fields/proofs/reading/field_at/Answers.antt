@@ -1,4 +1,4 @@
-use Rattle.std.proofs.Common.{◌≡◌, ℕ, ◌+◌, ◌-◌, length, refl, sym, ap, ◌∙◌, arith}
+use Rattle.std.proofs.Common.{refl, arith}
 use Rattle.proto_fields.proofs.RecordLemmas.{from_place, record_at-placed}
 use Rattle.proto_fields.proofs.reading.field_at.Goals as goal
 

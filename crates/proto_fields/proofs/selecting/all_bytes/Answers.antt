@@ -1,5 +1,5 @@
-use Rattle.std.proofs.Common.{◌≡◌, ◌++◌, ◌∷◌, [], List, map, sym, ap, ◌∙◌}
-use Rattle.proto_fields.specs.Spans.{span_for, spans_of, part}
+use Rattle.std.proofs.Common.{sym, ◌∙◌}
+use Rattle.proto_fields.specs.Spans.{span_for}
 use Rattle.proto_fields.proofs.SelectionLemmas.{filter_map-none, filter_map-some, payloads_of-records_in, spans_of-all, All-spans_of}
 use Rattle.proto_fields.proofs.selecting.all_bytes.Goals as goal
 use Rattle.proto_fields.proofs.selecting.all_bytes.Goals.{in-Some+in_ok-push, in_default}

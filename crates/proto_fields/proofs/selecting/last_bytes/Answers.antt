@@ -1,5 +1,5 @@
-use Rattle.std.proofs.Common.{◌≡◌, ℕ, List, take, is_some, Some, None, sym, ap, ◌∙◌}
-use Rattle.proto_fields.specs.Spans.{span_for, part, spans_of}
+use Rattle.std.proofs.Common.{sym, ap, ◌∙◌}
+use Rattle.proto_fields.specs.Spans.{span_for}
 use Rattle.proto_fields.specs.Selection.{last_of}
 use Rattle.proto_fields.proofs.SelectionLemmas.{filter_map-none, last_of-filter_map-some, last_payload, spans_of-all, IfSome-last_of-spans_of}
 use Rattle.proto_fields.proofs.selecting.last_bytes.Goals as goal

@@ -1,6 +1,5 @@
-use Rattle.std.proofs.Common.{◌≡◌, sym, ap, ◌∙◌}
-use Rattle.proto_fields.specs.Selection.{last_of, varint_for}
-use Rattle.proto_fields.specs.Spans.{record_in}
+use Rattle.std.proofs.Common.{sym, ap, ◌∙◌}
+use Rattle.proto_fields.specs.Selection.{last_of}
 use Rattle.proto_fields.proofs.SelectionLemmas.{varints-none, last_varint-some}
 use Rattle.proto_fields.proofs.selecting.last_varint.Goals as goal
 use Rattle.proto_fields.proofs.selecting.last_varint.Goals.{in-Some, in_default}

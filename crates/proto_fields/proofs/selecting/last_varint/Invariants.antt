@@ -1,6 +1,6 @@
-use Rattle.std.proofs.Common.{◌≡◌, ℕ, List, take, is_some}
-use Rattle.proto_fields.specs.Selection.{varints_of, payloads_of, last_of}
-use Rattle.proto_fields.specs.Spans.{records_in, spans_of}
+use Rattle.std.proofs.Common.{◌≡◌, ℕ, List, take}
+use Rattle.proto_fields.specs.Selection.{varints_of, last_of}
+use Rattle.proto_fields.specs.Spans.{records_in}
 use Rattle.proto_fields.proofs.selecting.last_varint.Given as goal
 
 abbrev pub invariant-loop-field : goal.invariant-loop-field

@@ -1,4 +1,4 @@
-use Rattle.std.proofs.Common.{◌≡◌, is_some, sym, ap, ◌∙◌}
+use Rattle.std.proofs.Common.{is_some, sym, ap, ◌∙◌}
 use Rattle.proto_fields.specs.Selection.{last_of}
 use Rattle.proto_fields.specs.Spans.{span_for}
 use Rattle.proto_fields.proofs.SelectionLemmas.{filter_map-none, last_of-filter_map-some}

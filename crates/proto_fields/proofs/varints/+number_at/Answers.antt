@@ -1,5 +1,4 @@
-use Rattle.std.proofs.Common.{◌≡◌, rules, arith}
-use Rattle.proto_fields.specs.Chain.{Gives}
+use Rattle.std.proofs.Common.{arith}
 use Rattle.proto_fields.proofs.VarintLemmas.{low_number_at-end, low_number_at-full, low_number_at-last, low_number_at-none, low_number_at-more}
 use Rattle.proto_fields.proofs.varints.+number_at.Goals as goal
 

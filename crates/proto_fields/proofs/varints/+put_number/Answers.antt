@@ -1,4 +1,4 @@
-use Rattle.std.proofs.Common.{◌≡◌, ◌++◌, ◌∷◌, [], List, refl, sym, ap, ◌∙◌, append_assoc, arith}
+use Rattle.std.proofs.Common.{refl, sym, arith}
 use Rattle.std.proofs.lemmas.List.{append-nil}
 use Rattle.proto_fields.proofs.VarintLemmas.{number_of-full, number_of-last, number_of-pushed}
 use Rattle.proto_fields.proofs.varints.+put_number.Goals as goal

@@ -1,5 +1,4 @@
 use Rattle.std.proofs.Common.{arith, length, ◌*◌, ◌+◌, length-append}
-use Rattle.proto_fields.specs.Varint.{varint_of}
 use Rattle.proto_fields.proofs.VarintLemmas.{length-varint_of, length-varint_of-small}
 use Rattle.proto_fields.proofs.writing.Out.bytes.Goals as goal
 
