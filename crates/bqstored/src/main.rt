@@ -11,6 +11,8 @@ mod messages;
 mod nested;
 mod replies;
 mod requests;
+#[cfg(test)]
+mod stream_tests;
 mod tables;
 #[cfg(test)]
 mod tests;

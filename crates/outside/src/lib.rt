@@ -17,8 +17,6 @@ mod scripts;
 mod sinks;
 mod sources;
 mod std_streams;
-#[cfg(test)]
-mod tests;
 mod texts;
 mod wants;
 
