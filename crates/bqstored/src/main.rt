@@ -19,10 +19,9 @@ mod tests;
 
 use commands::{USAGE, run};
 use outside::{StdSink, StdSource};
-use std::env;
-use std::io;
 use std::io::ErrorKind;
 use std::process::ExitCode;
+use std::{env, io};
 
 /// The status of want of memory.
 const WANT_OF_MEMORY: u8 = 4;

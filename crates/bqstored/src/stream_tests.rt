@@ -1,4 +1,4 @@
-use crate::{
+use outside::{
     Blob, Blobs, MemSink, MemSource, Piece, Sink, SinkWrite, Source, SourceRead, StdSink,
     StdSource, Text,
 };

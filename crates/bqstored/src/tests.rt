@@ -76,11 +76,7 @@ fn answer(
 ) -> Result<(u8, Narrow), Fail> {
     let words = vec![in alloc; String::from_str(alloc, "body")?]?;
     let mut source = Slow {
-        inner: MemSource::new(
-            alloc,
-            input.to_vec(alloc)?,
-            Vec::new(alloc),
-        ),
+        inner: MemSource::new(alloc, input.to_vec(alloc)?, Vec::new(alloc)),
         most,
         calls: reads,
         count: 0,
@@ -111,9 +107,15 @@ fn expect<R: Abort + AllocGlobal>(
 }
 
 const FIRST: &[u8] = b"\x00\x00\x00\x00\x0a\x12\x00\x22\x06\x12\x04\x0a\x02\x08\x01";
-const FIRST_TWICE: &[u8] = b"\x00\x00\x00\x00\x0a\x12\x00\x22\x06\x12\x04\x0a\x02\x08\x01\x00\x00\x00\x00\x0a\x12\x00\x22\x06\x12\x04\x0a\x02\x08\x01";
-const AT_TWO_THEN_ONE: &[u8] = b"\x00\x00\x00\x00\x0a\x12\x00\x22\x06\x12\x04\x0a\x02\x08\x01\x00\x00\x00\x00\x0c\x12\x02\x08\x02\x22\x06\x12\x04\x0a\x02\x08\x01\x00\x00\x00\x00\x0c\x12\x02\x08\x01\x22\x06\x12\x04\x0a\x02\x08\x01";
-const MINUS_ONE: &[u8] = b"\x00\x00\x00\x00\x15\x12\x0b\x08\xff\xff\xff\xff\xff\xff\xff\xff\xff\x01\x22\x06\x12\x04\x0a\x02\x08\x01";
+
+const FIRST_TWICE: &[u8] =
+    b"\x00\x00\x00\x00\x0a\x12\x00\x22\x06\x12\x04\x0a\x02\x08\x01\x00\x00\x00\x00\x0a\x12\x00\x22\x06\x12\x04\x0a\x02\x08\x01";
+
+const AT_TWO_THEN_ONE: &[u8] =
+    b"\x00\x00\x00\x00\x0a\x12\x00\x22\x06\x12\x04\x0a\x02\x08\x01\x00\x00\x00\x00\x0c\x12\x02\x08\x02\x22\x06\x12\x04\x0a\x02\x08\x01\x00\x00\x00\x00\x0c\x12\x02\x08\x01\x22\x06\x12\x04\x0a\x02\x08\x01";
+
+const MINUS_ONE: &[u8] =
+    b"\x00\x00\x00\x00\x15\x12\x0b\x08\xff\xff\xff\xff\xff\xff\xff\xff\xff\x01\x22\x06\x12\x04\x0a\x02\x08\x01";
 
 #[test]
 fn offsets_are_kept(rt: HostRuntime) -> Result<(), Fail> {
@@ -178,7 +180,10 @@ fn other_words_do_nothing(rt: HostRuntime) -> Result<(), Fail> {
     let words = vec![in rt.alloc(); String::from_str(rt.alloc(), "pipe")?]?;
     let mut source = MemSource::new(rt.alloc(), FIRST.to_vec(rt.alloc())?, Vec::new(rt.alloc()));
     let mut sink = MemSink::new(rt.alloc(), Vec::new(rt.alloc()));
-    assert_eq!(rt; run(rt.alloc(), words.as_slice(), &mut source, &mut sink), 2);
+    assert_eq!(rt;
+        run(rt.alloc(), words.as_slice(), &mut source, &mut sink),
+        2
+    );
     assert_eq!(rt; run(rt.alloc(), &[], &mut source, &mut sink), 2);
     assert_eq!(rt; sink.taken().len(), 0);
     Ok(())
