@@ -1,2 +1,8 @@
 pub mod RuleLemmas
 pub mod OpaqueLemmas
+pub mod CommitLemmas
+pub mod WalkLemmas
+pub mod AcceptedLemmas
+pub mod PlainLemmas
+pub mod LawLemmas
+pub mod SourceLemmas

@@ -1,4 +1,17 @@
 pub mod Reasons
 pub mod Rules
+pub mod Offsets
 pub mod Opaque
 pub mod OpaqueKept
+pub mod Streams
+pub mod History
+pub mod Content
+pub mod Facts
+pub mod Visible
+pub mod Checks
+pub mod Committing
+pub mod Answer
+pub mod Accepted
+pub mod Legal
+pub mod Table
+pub mod Laws

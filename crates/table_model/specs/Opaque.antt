@@ -1,5 +1,5 @@
 -- A table of opaque rows in one stream: its history is the list of the accepted appends.
-use Rattle.std.specs.Prelude.{◌≡◌, ℕ, ◌+◌, ℤ, pos, Bool, false, Option, None, Some, List, [], ◌∷◌, ◌++◌, length, sum_by, nat_lt, nat_le, int_lt, ◌==◌, Result, Ok, Err}
+use Rattle.std.specs.Prelude.{◌≡◌, ℕ, ◌+◌, ℤ, Option, List, [], ◌∷◌, ◌++◌, length, sum_by, nat_lt, nat_le, ◌==◌, Result, Ok, Err}
 use Rattle.std.specs.List.{flat_map}
 use Rattle.table_model.specs.declared.limits.TheConstants.{MAX_ENTRIES, MAX_WEIGHT, ROW_OVERHEAD}
 use Rattle.table_model.specs.declared.reasons.Refusal.{Refusal}
@@ -9,6 +9,7 @@ use Rattle.table_model.specs.declared.opaque_rows.OpaqueEntry.{OpaqueEntry}
 use Rattle.table_model.specs.declared.opaque_rows.AppendFault.{AppendFault}
 use Rattle.table_model.specs.declared.opaque_rows.AppendFault.TheVariants as fault
 use Rattle.table_model.specs.Rules.{Rule, first_refusal, unless}
+use Rattle.table_model.specs.Offsets.{offset_rules}
 
 -- the rows of all appends, joined in order
 abbrev pub content_of : List OpaqueEntry → List (List ℕ)
@@ -25,18 +26,9 @@ size_of row = ROW_OVERHEAD + length row
 abbrev pub weight_of : List (List ℕ) → ℕ
 weight_of rows = sum_by size_of rows
 
-abbrev pub offset_is : (ℤ → Bool) → Option ℤ → Bool
-offset_is test None = false
-offset_is test (Some offset) = test offset
-
 -- the refusals of an append of some rows at an offset, in a stream with this end
 abbrev pub place_rules : ℕ → Option ℤ → ℕ → List Rule
-place_rules end offset count =
-    (count == 0, why.NoRows)
-    ∷ (offset_is (λ z. int_lt z (pos 0)) offset, why.NegativeOffset)
-    ∷ (offset_is (λ z. int_lt z (pos end)) offset, why.AlreadyWritten)
-    ∷ (offset_is (λ z. int_lt (pos end) z) offset, why.PastEnd)
-    ∷ []
+place_rules end offset count = (count == 0, why.NoRows) ∷ offset_rules end offset
 
 -- the refusals of an append where its place is right
 abbrev pub room_rules : List OpaqueEntry → List (List ℕ) → List Rule

@@ -2,6 +2,7 @@ ghost use Rattle.std.specs.Prelude.{◌≡◌, ◌<◌, ◌≤◌, [], length, M
 ghost use Rattle.table_model.specs.Opaque.{Appended, weight_of, place_refusal_of};
 
 use super::limits::{MAX_ENTRIES, MAX_WEIGHT, ROW_OVERHEAD};
+use super::offsets::offset_refusal;
 use super::reasons::{Refusal, Why};
 use outside::{Blob, Blobs};
 use std::alloc::{AllocFailed, Global};
@@ -111,18 +112,7 @@ fn place_refusal(end: u64, offset: Option<i64>, rows: &[Blob]) -> Option<Why>
     if rows.is_empty() {
         return Some(Why::NoRows);
     }
-    let offset = offset?;
-    if offset < 0 {
-        return Some(Why::NegativeOffset);
-    }
-    let offset = offset as u64;
-    if offset < end {
-        return Some(Why::AlreadyWritten);
-    }
-    if offset > end {
-        return Some(Why::PastEnd);
-    }
-    None
+    offset_refusal(end, offset)
 }
 
 // The size of the rows, where it is at most `room`.

@@ -1,0 +1,4 @@
+pub mod CellLemmas
+pub mod LongLemmas
+pub mod RowLemmas
+pub mod SchemaLemmas

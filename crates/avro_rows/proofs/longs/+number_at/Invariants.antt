@@ -1,0 +1,4 @@
+use Rattle.avro_rows.proofs.longs.+number_at.Given as goal
+
+abbrev pub decreases-number_at : goal.decreases-number_at
+decreases-number_at l = l.limit

@@ -1,0 +1,5 @@
+pub mod Datum
+pub mod Fault
+pub mod Long
+pub mod Reads
+pub mod SchemaText

@@ -1,0 +1,10 @@
+pub mod Fronts
+pub mod Runs
+pub mod Standing
+pub mod Trees
+pub mod Bytes
+pub mod Strings
+pub mod Values
+pub mod Moments
+pub mod Sizes
+pub mod OneAnswer

@@ -1,0 +1,7 @@
+pub mod Grammar
+pub mod Literal
+pub mod Machine
+pub mod Meaning
+pub mod Reading
+pub mod Restriction
+pub mod Text

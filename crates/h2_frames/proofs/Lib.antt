@@ -1,0 +1,9 @@
+pub mod Accepted
+pub mod PairLemmas
+pub mod HeldLemmas
+pub mod Meaning
+pub mod FramingLemmas
+pub mod RunLemmas
+pub mod Soundness
+pub mod Written
+pub mod AnswerLemmas

@@ -1,0 +1,14 @@
+pub mod Header
+pub mod Content
+pub mod Fault
+pub mod Frame
+pub mod Sound
+pub mod Spelling
+pub mod Held
+pub mod Kept
+pub mod Reading
+pub mod Spelled
+pub mod Framing
+pub mod Run
+pub mod Answer
+pub mod Laws

@@ -1,0 +1,4 @@
+pub mod StaticLemmas
+pub mod TableLemmas
+pub mod BlockLemmas
+pub mod SpellingLemmas

@@ -1,0 +1,7 @@
+pub mod Static
+pub mod Table
+pub mod Reading
+pub mod Block
+pub mod Answers
+pub mod Standing
+pub mod Spelling

@@ -1,0 +1,5 @@
+pub mod Number
+pub mod Cell
+pub mod Row
+pub mod Rows
+pub mod Answers

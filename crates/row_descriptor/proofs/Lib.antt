@@ -1,0 +1,4 @@
+pub mod BindingLemmas
+pub mod DescriptorLemmas
+pub mod DistinctLemmas
+pub mod ListLemmas

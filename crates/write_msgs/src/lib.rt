@@ -1,0 +1,31 @@
+//! The messages of BigQuery's Storage Write API, read and written.
+//!
+//! Each message is a struct with the fields that are served, under their names in
+//! `google.cloud.bigquery.storage.v1`. `decode` reads one from its bytes and `encode` writes it; for
+//! both the standard is the Protocol Buffers encoding guide. Fields that are not listed, and fields of
+//! another wire type than their own, are passed over. A message is written with its fields in rising
+//! numbers and with shortest varints; a number 0, an empty text and an absent message are not
+//! written.
+//!
+//! Why a message is refused is [`MsgFault`], which says the order in which faults count.
+#![tactic(auto)]
+
+mod faults;
+mod nested;
+mod numbers;
+mod reading;
+mod request;
+mod request_parts;
+mod request_writing;
+mod response;
+mod response_parts;
+mod writing;
+
+pub use faults::MsgFault;
+pub use request::AppendRowsRequest;
+pub use request_parts::{ProtoData, ProtoRows, ProtoSchema};
+pub use response::AppendRowsResponse;
+pub use response_parts::{AppendResult, RowError, RowErrors, Status};
+
+#[cfg(test)]
+mod tests;
