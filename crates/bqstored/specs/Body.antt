@@ -1,5 +1,5 @@
 -- The command that answers one AppendRows body over a table of opaque rows.
-use Rattle.std.specs.Prelude.{◌≡◌, ℕ, Bool, List, [], Option, Some, is_some, IfSome}
+use Rattle.std.specs.Prelude.{◌≡◌, ℕ, Bool, List, [], Option, None, Some, is_some, IfSome}
 use Rattle.outside.specs.Faults.{Rose}
 use Rattle.table_model.specs.declared.opaque_rows.OpaqueEntry.{OpaqueEntry}
 use Rattle.call_body.specs.declared.ends.BodyEnd.{BodyEnd}
@@ -7,6 +7,8 @@ use Rattle.call_body.specs.declared.ends.BodyEnd.TheVariants as ends
 use Rattle.bqstored.specs.declared.requests.Request.{Request}
 use Rattle.bqstored.specs.Request.{request_of}
 use Rattle.bqstored.specs.Reply.{reply_at, history_behind}
+use Rattle.table_spec.specs.declared.spec.TableSpec.{TableSpec}
+use Rattle.bqstored.specs.Typed.{is_decodable, AnswersFromTyped, fresh}
 use Rattle.call_body.specs.Ends.{EndsAs, Writes, ReadsAll, HasCause, IsGoodBody, IsDoneOrMemory}
 
 -- a message that can be read
@@ -18,14 +20,22 @@ abbrev pub AnswersFromTable : List OpaqueEntry → List ℕ → List ℕ → Lis
 AnswersFromTable history message reply next =
     (request : Request) × (request_of message ≡ Some request) × (reply ≡ reply_at history request) × (next ≡ history_behind history request)
 
--- One run over a source and a sink: what was written is the framed replies, in order, to the messages read, each answered
--- over the appends accepted before it; after a fault or want of memory it is the first bytes of these.
-pub record BodyRan (left0 left taken0 taken : Option (List ℕ)) (source_faults0 source_faults sink_faults0 sink_faults : ℕ) (end : BodyEnd) : Type 0 where
+-- One run over a source and a sink, of what answers messages so from a state on: what was written is the framed replies,
+-- in order, to the messages read, each answered at what the messages before it left; after a fault or want of memory it is
+-- the first bytes of these.
+pub record BodyRan {S : Type 0} (readable : List ℕ → Bool) (answers : S → List ℕ → List ℕ → S → Type 0) (start : S) (left0 left taken0 taken : Option (List ℕ)) (source_faults0 source_faults sink_faults0 sink_faults : ℕ) (end : BodyEnd) : Type 0 where
   pub ending : (replied : List ℕ) × Writes taken0 taken replied end
-      × IfSome left0 (λ bytes. (history : List OpaqueEntry) × EndsAs is_readable AnswersFromTable bytes replied [] history end)
+      × IfSome left0 (λ bytes. (last : S) × EndsAs readable answers bytes replied start last end)
   pub cause : HasCause source_faults0 source_faults sink_faults0 sink_faults end
   pub read : ReadsAll left0 left end
-  pub complete : IfSome left0 (λ bytes. IsGoodBody is_readable bytes → (Rose source_faults0 source_faults → ⊥) → (Rose sink_faults0 sink_faults → ⊥) → IsDoneOrMemory end)
+  pub complete : IfSome left0 (λ bytes. IsGoodBody readable bytes → (Rose source_faults0 source_faults → ⊥) → (Rose sink_faults0 sink_faults → ⊥) → IsDoneOrMemory end)
+
+-- Without a table the rows are opaque bytes in one stream, and with one they are typed.
+abbrev pub RanOver : Option TableSpec → Option (List ℕ) → Option (List ℕ) → Option (List ℕ) → Option (List ℕ) → ℕ → ℕ → ℕ → ℕ → BodyEnd → Type 0
+RanOver None left0 left taken0 taken source_faults0 source_faults sink_faults0 sink_faults end =
+    BodyRan is_readable AnswersFromTable [] left0 left taken0 taken source_faults0 source_faults sink_faults0 sink_faults end
+RanOver (Some spec) left0 left taken0 taken source_faults0 source_faults sink_faults0 sink_faults end =
+    BodyRan is_decodable AnswersFromTyped (fresh spec.schema) left0 left taken0 taken source_faults0 source_faults sink_faults0 sink_faults end
 
 -- the status of the program
 abbrev pub status_of : BodyEnd → ℕ

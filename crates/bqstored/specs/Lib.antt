@@ -1,6 +1,8 @@
 pub mod Request
 pub mod Reply
+pub mod Typed
 pub mod Body
 pub mod Inner
 pub mod Fault
 pub mod Words
+pub mod Runs

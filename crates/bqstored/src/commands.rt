@@ -1,42 +1,31 @@
-ghost use Rattle.std.specs.Prelude.{◌≡◌, ◌↔◌, IsTrue, codes};
-ghost use Rattle.call_body.specs.declared.ends.BodyEnd.{BodyEnd};
-ghost use Rattle.bqstored.specs.Body.{BodyRan, status_of};
-ghost use Rattle.bqstored.specs.Words.{IsBodyLine};
+ghost use Rattle.std.specs.Prelude.{◌≡◌, map, string_bytes};
+ghost use Rattle.bqstored.specs.declared.words.CommandLine.{CommandLine};
+ghost use Rattle.bqstored.specs.Runs.{RunsLine, RunsNone};
+ghost use Rattle.bqstored.specs.Words.{IsLine};
 
 use crate::bodies::{body, status};
+use crate::words::{CommandLine, Usage, command_of};
 use outside::{Sink, Source};
 use std::alloc::Global;
 
 /// The status where the words are no command line.
 pub const USAGE: u8 = 2;
 
-/// Whether the word is `body`.
-fn is_body(word: &str) -> bool
-    ensures { IsTrue result ↔ (word.now ≡ codes "body") }
-{
-    word == "body"
-}
-
-/// Whether the words are the one word `body`.
-fn is_body_line(words: &[String]) -> bool
-    ensures { IsTrue result ↔ IsBodyLine words.now }
-{
-    words.len() == 1 && is_body(words[0].as_str())
-}
+/// The status of want of memory.
+pub const WANT_OF_MEMORY: u8 = 4;
 
 /// Runs the command that the words name, and gives the status of the program.
 ///
-/// The one word `body` reads a body from `input` and writes the replies to `out`. Where the words
+/// `body`, with or without a table, reads a body from `input` and writes the replies to `out`. Where the words
 /// are no command line the status is 2, and nothing is read or written.
 pub fn run<I: Source, O: Sink>(alloc: Global, words: &[String], input: &mut I, out: &mut O) -> u8
-    ensures usage { (IsBodyLine words.now → ⊥) → (result ≡ USAGE) × (input.new ≡ input.old) × (out.new ≡ out.old) }
-    ensures body { IsBodyLine words.now → (end : BodyEnd) × (result ≡ status_of end)
-        × BodyRan (I.left input.old) (I.left input.new) (O.taken out.old) (O.taken out.new)
-        (I.faults input.old) (I.faults input.new) (O.faults out.old) (O.faults out.new) end }
+    ensures usage { ((line : CommandLine) → IsLine (map string_bytes words.now) line → ⊥) → RunsNone result input.old input.new out.old out.new }
+    ensures line { (line : CommandLine) → IsLine (map string_bytes words.now) line → RunsLine line (I.left input.old) (I.left input.new) (O.taken out.old) (O.taken out.new)
+        (I.faults input.old) (I.faults input.new) (O.faults out.old) (O.faults out.new) result }
 {
-    if is_body_line(words) {
-        status(body(alloc, input, out))
-    } else {
-        USAGE
+    match command_of(alloc, words) {
+        Ok(CommandLine::Body { table }) => status(body(alloc, table.as_ref(), input, out)),
+        Err(Usage::NoLine) => USAGE,
+        Err(Usage::Memory) => WANT_OF_MEMORY,
     }
 }

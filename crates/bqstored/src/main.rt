@@ -1,7 +1,8 @@
 //! The program `bqstored`: BigQuery's bulk interface over typed tables in memory.
 //!
 //! It runs one command, `body`: it reads the body of one AppendRows call from standard input, keeps
-//! the rows by offset and writes the framed replies to standard output. [`run`] is the program
+//! the rows by offset and writes the framed replies to standard output. With `--table SPEC` the rows are decoded
+//! by the writer schema of the call and kept by the table's columns. [`run`] is the program
 //! without the process around it; its contract says what is written and which status comes when.
 #![tactic(auto)]
 
@@ -16,15 +17,14 @@ mod stream_tests;
 mod tables;
 #[cfg(test)]
 mod tests;
+mod typed_table;
+mod words;
 
-use commands::{USAGE, run};
+use commands::{USAGE, WANT_OF_MEMORY, run};
 use outside::{StdSink, StdSource};
 use std::io::ErrorKind;
 use std::process::ExitCode;
 use std::{env, io};
-
-/// The status of want of memory.
-const WANT_OF_MEMORY: u8 = 4;
 
 /// The words behind the program's name.
 fn words(rt: &HostRuntime) -> io::Result<Vec<String>> {
@@ -46,8 +46,8 @@ fn status(rt: &HostRuntime) -> u8 {
 
 fn main(rt: HostRuntime) -> ExitCode {
     let status = status(&rt);
-    if status == USAGE {
-        let _ = eprintln!(rt; "usage: bqstored body < BODY > REPLIES");
+    if status != 0 {
+        let _ = eprintln!(rt; "bqstored: status {status}");
     }
     ExitCode::from(status)
 }

@@ -49,6 +49,13 @@ impl Plain {
         }
     }
 
+    /// The columns.
+    pub fn schema(&self) -> &Schema
+        ensures { result.now ≡ self.now.columns }
+    {
+        &self.schema
+    }
+
     /// The history.
     pub fn entries(&self) -> &[Entry]
         ensures { result.now ≡ self.now.entries }
@@ -72,8 +79,23 @@ impl Plain {
         ensures { Stepped self.old self.new caller command.now now result }
     {
         let asked = command.copy(alloc)?;
+        self.step_with(alloc, caller, asked, now)
+    }
+
+    /// Answers a command like [`step`](Plain::step), and moves the rows of an append into the table.
+    pub fn step_with(
+        &mut self,
+        alloc: Global,
+        caller: u32,
+        command: Command,
+        now: i64,
+    ) -> Result<Reply, Memory>
+        requires taken { Takes self.old.columns command }
+        requires in_time { now ≤ℤ LATEST_READING }
+        ensures { Stepped self.old self.new caller command now result }
+    {
         let facts = self.facts(caller);
-        let answer = answer_to(alloc, &facts, &*self, asked, now)?;
+        let answer = answer_to(alloc, &facts, &*self, command, now)?;
         self.take(answer)
     }
 

@@ -1,0 +1,4 @@
+pub mod RowsLemmas
+pub mod MessageSizes
+pub mod RequestSizes
+pub mod ResponseSizes

@@ -1,0 +1,6 @@
+pub mod Writer
+pub mod Texts
+pub mod Rows
+pub mod Response
+pub mod Message
+pub mod Sizes
