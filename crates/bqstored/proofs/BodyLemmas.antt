@@ -61,25 +61,9 @@ AnswersOne-given inside old new message request rows appended given same moved i
     let Q : List (List ℕ) → Type 0 = λ r. Appended old new request.offset r appended in
     AnswersOne-append old new message request appended given is (subst Q moved (subst P same append)) with
 
--- some history stands at the end
-pub with_history : (left0 : Option (List ℕ)) (replied : List ℕ) (new : List OpaqueEntry) (end : BodyEnd)
-    → IfSome left0 (λ bytes. EndsAs is_readable AnswersFromTable bytes replied [] new end)
-    → IfSome left0 (λ bytes. (history : List OpaqueEntry) × EndsAs is_readable AnswersFromTable bytes replied [] history end)
-with_history None replied new end holds = tt
-with_history (Some bytes) replied new end holds = (new, holds)
-
--- one word is a line of that word
-pub one_word : (words : List (String Global)) (word : String Global) → length words ≡ 1 → word ≡ get_or words 0 word → map string_bytes words ≡ string_bytes word ∷ []
-one_word [] word one first = absurd (omega (arith, one))
-one_word (only ∷ []) word one first = ap (λ w. string_bytes w ∷ []) (sym first)
-one_word (a ∷ b ∷ words) word one first = absurd (omega (arith, one))
-
--- one word is compared as the line of words
-pub one_line : (words : List (String Global)) (word : String Global) (wanted : List ℕ) (b : Bool) → length words ≡ 1 → word ≡ get_or words 0 word
-    → (IsTrue b ↔ (string_bytes word ≡ wanted)) → (IsTrue b ↔ (map string_bytes words ≡ wanted ∷ []))
-one_line words word wanted b one first tested =
-    let line = one_word words word one first in
-    (λ yes. line ∙ ap (λ w. w ∷ []) (tested.0 yes), λ same. tested.1 (heads _ _ (sym line ∙ same)))
-  where
-    heads : (a b : List ℕ) → ◌≡◌ {A = List (List ℕ)} (a ∷ []) (b ∷ []) → a ≡ b
-    heads a b same = cc
+-- some state stands at the end
+pub with_last : {S : Type 0} (readable : List ℕ → Bool) (answers : S → List ℕ → List ℕ → S → Type 0) (left0 : Option (List ℕ)) (replied : List ℕ) (start last : S) (end : BodyEnd)
+    → IfSome left0 (λ bytes. EndsAs readable answers bytes replied start last end)
+    → IfSome left0 (λ bytes. (some : S) × EndsAs readable answers bytes replied start some end)
+with_last readable answers None replied start last end holds = tt
+with_last readable answers (Some bytes) replied start last end holds = (last, holds)

@@ -1,2 +1,5 @@
 pub mod TextLemmas
 pub mod BodyLemmas
+pub mod WordsLemmas
+pub mod TypedLemmas
+pub mod RunLemmas

@@ -21,7 +21,7 @@ pub fn body<I: Source, O: Sink>(
     input: &mut I,
     out: &mut O,
 ) -> BodyEnd
-    ensures ran { RanOver (option_copied table) (I.left input.old) (I.left input.new) (O.taken out.old) (O.taken out.new)
+    ensures ran { RanOver (option_copied table.entry) (I.left input.old) (I.left input.new) (O.taken out.old) (O.taken out.new)
         (I.faults input.old) (I.faults input.new) (O.faults out.old) (O.faults out.new) result }
 {
     match table {

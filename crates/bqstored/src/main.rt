@@ -27,13 +27,13 @@ use std::process::ExitCode;
 use std::{env, io};
 
 /// The words behind the program's name.
-fn words(rt: &HostRuntime) -> io::Result<Vec<String>> {
+fn given_words(rt: &HostRuntime) -> io::Result<Vec<String>> {
     Ok(env::args(rt)?.skip(1).collect(rt.alloc())?)
 }
 
 /// The status of a run over standard input and output.
 fn status(rt: &HostRuntime) -> u8 {
-    match words(rt) {
+    match given_words(rt) {
         Ok(words) => {
             let mut input = StdSource::new(rt.reader());
             let mut out = StdSink::new(io::writer(rt));

@@ -1,6 +1,6 @@
 //! The command line.
 
-ghost use Rattle.std.specs.Prelude.{MatchOption, map, string_bytes};
+ghost use Rattle.std.specs.Prelude.{◌≡◌, ◌↔◌, [], ◌∷◌, IsTrue, MatchOption, codes, map, string_bytes};
 ghost use Rattle.bqstored.specs.Words.{IsValue, NoValue, ReadsLine, ReadsTable};
 
 use std::alloc::Global;
@@ -41,17 +41,56 @@ fn table_line(alloc: Global, spec: &str) -> Result<CommandLine, Usage>
     }
 }
 
+/// `body` and one more word.
+fn word_line(alloc: Global, word: &str) -> Result<CommandLine, Usage>
+    ensures { ReadsLine (codes "body" ∷ word.now ∷ []) result }
+{
+    match value_in(word) {
+        Some(spec) => table_line(alloc, spec),
+        None => Err(Usage::NoLine),
+    }
+}
+
+/// `body` and two more words.
+fn option_line(alloc: Global, option: &str, spec: &str) -> Result<CommandLine, Usage>
+    ensures { ReadsLine (codes "body" ∷ option.now ∷ spec.now ∷ []) result }
+{
+    if option == "--table" {
+        table_line(alloc, spec)
+    } else {
+        Err(Usage::NoLine)
+    }
+}
+
+/// `body` and the words behind it.
+fn body_line(alloc: Global, options: &[String]) -> Result<CommandLine, Usage>
+    ensures { ReadsLine (codes "body" ∷ map string_bytes options.now) result }
+{
+    match options {
+        [] => Ok(CommandLine::Body { table: None }),
+        [word] => word_line(alloc, word.as_str()),
+        [option, spec] => option_line(alloc, option.as_str(), spec.as_str()),
+        _ => Err(Usage::NoLine),
+    }
+}
+
+/// Whether the word is `body`.
+fn is_body(word: &str) -> bool
+    ensures { IsTrue result ↔ (word.now ≡ codes "body") }
+{
+    word == "body"
+}
+
 /// Reads the words behind the program's name.
 pub fn command_of(alloc: Global, words: &[String]) -> Result<CommandLine, Usage>
     ensures { ReadsLine (map string_bytes words.now) result }
 {
-    match words {
-        [body] if body == "body" => Ok(CommandLine::Body { table: None }),
-        [body, word] if body == "body" => match value_in(word) {
-            Some(spec) => table_line(alloc, spec),
-            None => Err(Usage::NoLine),
-        },
-        [body, option, spec] if body == "body" && option == "--table" => table_line(alloc, spec),
-        _ => Err(Usage::NoLine),
+    let Some((command, options)) = words.split_first() else {
+        return Err(Usage::NoLine);
+    };
+    if is_body(command.as_str()) {
+        body_line(alloc, options)
+    } else {
+        Err(Usage::NoLine)
     }
 }

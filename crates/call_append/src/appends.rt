@@ -68,7 +68,8 @@ fn append(
     requires fit { All (Fits table.old.columns) rows.items }
     requires size { sum_by bytes_of_row rows.items ≤ bytes }
     requires in_time { asker.now ≤ℤ LATEST_READING }
-    ensures { Responds table.old table.new (on_decoded asker table.old offset bytes rows.items) result }
+    ensures outcome { Responds table.old table.new (on_decoded asker table.old offset bytes rows.items) result }
+    ensures columns { table.new.columns ≡ table.old.columns }
 {
     let command = Command::Append {
         stream: asker.stream,
@@ -100,6 +101,7 @@ pub fn answer_rows(
     requires small { sum_by length rows.now < 2 ^ 32 }
     requires in_time { asker.now ≤ℤ LATEST_READING }
     ensures outcome { Responds table.old table.new (on_writer asker table.old writer.now offset rows.now) result }
+    ensures columns { table.new.columns ≡ table.old.columns }
     ensures size { IfOk result (λ response. length (append_rows_response_bytes response) < 2 ^ 32) }
 {
     let binding = match writer {

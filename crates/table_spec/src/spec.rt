@@ -72,17 +72,23 @@ fn schema_of(alloc: Global, columns: Vec<Column>) -> Result<Schema, SpecFault>
     }
 }
 
+fn copy_of(alloc: Global, column: &Column) -> Result<Column, Memory>
+    ensures { IfOk result (λ copy. copy ≡ column.now) }
+{
+    Ok(Column {
+        name: Text::of(alloc, column.name.text())?,
+        kind: column.kind,
+        mode: column.mode,
+    })
+}
+
 /// Copies of columns.
 fn copies(alloc: Global, columns: &[Column]) -> Result<Vec<Column>, Memory>
     ensures { IfOk result (λ copied. copied.items ≡ columns.now) }
 {
     let mut copied = Vec::with_capacity(alloc, columns.len())?;
     for column in columns {
-        copied.push(Column {
-            name: Text::of(alloc, column.name.text())?,
-            kind: column.kind,
-            mode: column.mode,
-        })?;
+        copied.push(copy_of(alloc, column)?)?;
     }
     Ok(copied)
 }

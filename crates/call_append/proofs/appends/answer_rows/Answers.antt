@@ -21,10 +21,10 @@ returns-in-Ok-decode_rows-clause-outcome c =
     let writer = ap (λ (w : Writer). on_writer c.args.asker table w c.args.offset rows) c.in-Ok.is in
     let read = ap (λ (r : Result (List (List Cell)) (List RowFault)). on_rows c.args.asker table c.args.offset (sum_by length rows) r) (all_rows c.in-Ok.binding rows decoded c.in-Ok-decode_rows.ensures.value) in
     let size = ap (λ (n : ℕ). on_decoded c.args.asker table c.args.offset n decoded) (sym c.size_of.ensures) in
-    subst (λ (due : Outcome). Responds table c.append.new.table due c.append.result) (sym (writer ∙ read ∙ size)) c.append.ensures
+    subst (λ (due : Outcome). Responds table c.append.new.table due c.append.result) (sym (writer ∙ read ∙ size)) c.append.ensures.outcome
 
 pub returns-in-Ok-decode_rows-clause-size : goal.returns-in-Ok-decode_rows-clause-size
-returns-in-Ok-decode_rows-clause-size c = responds_short _ _ _ c.append.result (told_short c.args.table.now.columns _) c.append.ensures
+returns-in-Ok-decode_rows-clause-size c = responds_short _ _ _ c.append.result (told_short c.args.table.now.columns _) c.append.ensures.outcome
 
 pub returns-in_ok-refused-in-Err-Refused-clause-size : goal.returns-in_ok-refused-in-Err-Refused-clause-size
 returns-in_ok-refused-in-Err-Refused-clause-size c =

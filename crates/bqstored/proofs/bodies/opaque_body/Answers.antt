@@ -1,14 +1,14 @@
 -- The table begins without a row.
 use Rattle.std.proofs.Common.{◌≡◌}
-use Rattle.bqstored.proofs.BodyLemmas.{with_history}
-use Rattle.bqstored.proofs.bodies.body.Goals as goal
+use Rattle.bqstored.proofs.BodyLemmas.{with_last}
+use Rattle.bqstored.proofs.bodies.opaque_body.Goals as goal
 
 pub returns : goal.returns
 returns g c =
     let ran = rw c.new-table.ensures at c.answer_body.ensures in
     record {
       ran = record {
-        ending = (ran.ending.0, ran.ending.1, with_history _ _ _ _ ran.ending.2);
+        ending = (ran.ending.0, ran.ending.1, with_last _ _ _ _ _ _ _ ran.ending.2);
         cause = ran.cause;
         read = ran.read;
         complete = ran.complete;

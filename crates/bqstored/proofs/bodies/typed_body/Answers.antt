@@ -1,0 +1,20 @@
+-- The table begins with its one write stream and no writer schema.
+use Rattle.std.proofs.Common.{◌≡◌}
+use Rattle.bqstored.proofs.BodyLemmas.{with_last}
+use Rattle.bqstored.proofs.RunLemmas.{nothing_ran}
+use Rattle.bqstored.proofs.bodies.typed_body.Goals as goal
+
+pub returns-in-Ok : goal.returns-in-Ok
+returns-in-Ok g c =
+    let ran = rw c.in-Ok.ensures at c.answer_body.ensures in
+    record {
+      ran = record {
+        ending = (ran.ending.0, ran.ending.1, with_last _ _ _ _ _ _ _ ran.ending.2);
+        cause = ran.cause;
+        read = ran.read;
+        complete = ran.complete;
+      };
+    }
+
+pub returns-in-Err : goal.returns-in-Err
+returns-in-Err g c = record { ran = nothing_ran _ _ _ _ _ _ _ }
