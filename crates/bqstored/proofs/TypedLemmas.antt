@@ -39,4 +39,3 @@ pub answered_none : (old new : Call) (message : List ℕ) (request : AppendRowsR
 answered_none old new message request none.Undone is h = inl h
 answered_none old new message request none.Lost is h =
     inr (append_rows_response_bytes (outcome_in old request).response, decodable message request is, (request, is, refl, h))
-

@@ -91,7 +91,7 @@ pub rest_reads : (words options : List (String Global)) (command : String Global
     → ReadsLine (codes "body" ∷ map string_bytes options) r → ReadsLine (map string_bytes words) r
 rest_reads words options command r e named h =
     let all : map string_bytes words ≡ codes "body" ∷ map string_bytes options =
-        ap (map string_bytes) e ∙ ap (λ (w : List ℕ). w ∷ map string_bytes options) named in
+    ap (map string_bytes) e ∙ ap (λ (w : List ℕ). w ∷ map string_bytes options) named in
     subst (λ (ws : List (List ℕ)). ReadsLine ws r) (sym all) h
 
 -- a text is one SPEC, and words are one line

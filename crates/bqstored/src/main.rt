@@ -18,6 +18,8 @@ mod tables;
 #[cfg(test)]
 mod tests;
 mod typed_table;
+#[cfg(test)]
+mod typed_tests;
 mod words;
 
 use commands::{USAGE, WANT_OF_MEMORY, run};

@@ -62,9 +62,12 @@ fn rows_named(request: &AppendRowsRequest) -> &[Blob]
     ensures { result.now ≡ rows_named request.now }
 {
     match &request.proto_rows {
-        Some(ProtoData {
-            rows: Some(rows), ..
-        }) => rows.serialized_rows.blobs(),
+        Some(
+            ProtoData {
+                rows: Some(rows),
+                ..
+            },
+        ) => rows.serialized_rows.blobs(),
         _ => &[],
     }
 }

@@ -18,7 +18,7 @@ record_costs : (bytes rest : List ℕ) (r : Record) → record_at bytes ≡ Some
 record_costs bytes rest r e =
     let h = record_at-lies bytes r rest e in
     let size : length bytes ≡ length h.before + (length (content r.payload) + length rest) =
-        ap length h.whole ∙ length-append h.before (content r.payload ++ rest) ∙ ap (λ (n : ℕ). length h.before + n) (length-append (content r.payload) rest) in
+    ap length h.whole ∙ length-append h.before (content r.payload ++ rest) ∙ ap (λ (n : ℕ). length h.before + n) (length-append (content r.payload) rest) in
     omega (arith, h.more, size)
 
 -- one byte more stands in front

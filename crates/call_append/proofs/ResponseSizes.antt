@@ -162,16 +162,28 @@ row_error_size : (columns : List Column) (fault : RowFault) → length (row_erro
 unfolding row_error_bytes
 row_error_size columns fault =
     let e = row_error columns fault in
-    omega (arith, message_size (int_field 1 e.index ++ int_field 2 e.code ++ text_field 3 e.message),
-    sum_by-append size (int_field 1 e.index ++ int_field 2 e.code) (text_field 3 e.message), sum_by-append size (int_field 1 e.index) (int_field 2 e.code),
-    int_size 1 e.index, int_size 2 e.code, text_size 3 e.message, row_size columns fault.why)
+    omega (
+      arith,
+      message_size (int_field 1 e.index ++ int_field 2 e.code ++ text_field 3 e.message),
+      sum_by-append size (int_field 1 e.index ++ int_field 2 e.code) (text_field 3 e.message),
+      sum_by-append size (int_field 1 e.index) (int_field 2 e.code),
+      int_size 1 e.index,
+      int_size 2 e.code,
+      text_size 3 e.message,
+      row_size columns fault.why,
+    )
 
 row_errors_size : (number : ℕ) (columns : List Column) (faults : List RowFault) → sum_by size (repeated_field number (map row_error_bytes (map (row_error columns) faults))) ≤ 700 * length faults
 row_errors_size number columns [] = omega arith
 row_errors_size number columns (fault ∷ faults) =
     let bytes : List ℕ = row_error_bytes (row_error columns fault) in
-    omega (arith, row_errors_size number columns faults, bytes_size number bytes, row_error_size columns fault,
-    sum_by-cons size (bytes_field number bytes) (repeated_field number (map row_error_bytes (map (row_error columns) faults))))
+    omega (
+      arith,
+      row_errors_size number columns faults,
+      bytes_size number bytes,
+      row_error_size columns fault,
+      sum_by-cons size (bytes_field number bytes) (repeated_field number (map row_error_bytes (map (row_error columns) faults))),
+    )
 
 abbrev pub IsShort : AppendRowsResponse → Type 0
 IsShort response = length (append_rows_response_bytes response) < 2 ^ 32

@@ -19,8 +19,11 @@ use Rattle.call_append.specs.Texts.{cause_text, row_text}
 -- the offset of the first row, where the stream has offsets
 abbrev pub accepted : Option ℕ → AppendRowsResponse
 accepted offset = record {
-    append_result = Some (record { offset = option_map (cast_signed w64) offset });
-    error = None; row_errors = []; write_stream = [] }
+  append_result = Some (record { offset = option_map (cast_signed w64) offset });
+  error = None;
+  row_errors = [];
+  write_stream = [];
+}
 
 abbrev pub row_error : List Column → RowFault → RowError
 row_error columns fault = record { index = pos fault.index; code = pos FIELDS_ERROR; message = row_text columns fault.why }
@@ -28,9 +31,11 @@ row_error columns fault = record { index = pos fault.index; code = pos FIELDS_ER
 -- the cause of a refusal, and the rows at fault
 abbrev pub refused : List Column → Why → List RowFault → AppendRowsResponse
 refused columns cause faults = record {
-    append_result = None;
-    error = Some (record { code = pos (code_of cause); message = cause_text cause });
-    row_errors = map (row_error columns) faults; write_stream = [] }
+  append_result = None;
+  error = Some (record { code = pos (code_of cause); message = cause_text cause });
+  row_errors = map (row_error columns) faults;
+  write_stream = [];
+}
 
 -- What a table tells of an append: a table answers none with another reply than these two.
 abbrev pub told : List Column → Reply → AppendRowsResponse

@@ -16,6 +16,3 @@ pub use appends::{Asker, NoResponse, answer_rows};
 pub use responses::{FIELDS_ERROR, refused, told};
 pub use texts::SHOWN_CHARACTERS;
 pub use writers::{Writer, bind_writer};
-
-
-

@@ -45,12 +45,7 @@ pub(crate) fn cause_text(alloc: Global, cause: &Why) -> Result<Text, Memory>
 }
 
 /// This phrase and the name of the column of this number.
-fn column_text(
-    alloc: Global,
-    phrase: &str,
-    columns: &[Column],
-    number: u32,
-) -> Result<Text, Memory>
+fn column_text(alloc: Global, phrase: &str, columns: &[Column], number: u32) -> Result<Text, Memory>
     ensures { IfOk result (λ text. text ≡ phrase.now ++ column_name columns.now number) }
 {
     let mut text = String::new(alloc);

@@ -14,3 +14,5 @@ mod spec;
 pub use names::MAX_PART_BYTES;
 pub use spec::{SpecFault, TableSpec};
 
+#[cfg(test)]
+mod tests;
