@@ -8,7 +8,7 @@ use crate::typed_table::TypedTable;
 use call_body::{BodyEnd, answer_body};
 use outside::{Memory, Sink, Source};
 use std::alloc::Global;
-use table_spec::TableSpec;
+use table_engine::TableSpec;
 
 /// Reads the body of one AppendRows call from `input`, keeps its rows by offset, and writes the framed replies to
 /// `out`. Without a table the rows are opaque bytes; with one they are decoded by the writer schema of the call and

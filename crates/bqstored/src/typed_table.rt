@@ -12,7 +12,8 @@ use column_types::Schema;
 use outside::{Blob, Memory};
 use std::alloc::Global;
 use std::marker::Model;
-use table_model::{Command, Plain, StreamKind, StreamRef, Why};
+use table_engine::Engine;
+use table_model::{Command, StreamKind, StreamRef, Why};
 use write_msgs::{AppendRowsRequest, AppendRowsResponse, MsgFault, ProtoData};
 
 /// The number of the one write stream.
@@ -30,7 +31,7 @@ const ASKER: Asker = Asker {
 /// Contracts see its columns and its history, and the writer schema that counts.
 #[derive(Drop)]
 pub struct TypedTable {
-    table: Plain,
+    table: Engine,
     writer: Writer,
 }
 
@@ -77,11 +78,11 @@ impl TypedTable {
     pub fn new(alloc: Global, schema: Schema) -> Result<TypedTable, Memory>
         ensures { IfOk result (λ table. table ≡ fresh schema) }
     {
-        let mut table = Plain::new(alloc, schema);
+        let mut table = Engine::new(alloc, schema)?;
         let create = Command::Create {
             kind: StreamKind::Committed,
         };
-        table.step_with(alloc, ASKER.caller, create, ASKER.now)?;
+        table.step(alloc, ASKER.caller, create, ASKER.now)?;
         Ok(TypedTable {
             table,
             writer: Err(Why::NoSchema),

@@ -15,7 +15,8 @@ use outside::{Blob, Memory};
 use row_decode::{RowsFault, decode_rows};
 use sqlite_items::Items;
 use std::alloc::Global;
-use table_model::{Command, Plain, StreamRef, Why};
+use table_engine::Engine;
+use table_model::{Command, StreamRef, Why};
 use write_msgs::AppendRowsResponse;
 
 /// Who appends, to which write stream, and when.
@@ -59,7 +60,7 @@ fn size_of(rows: &[Blob]) -> u64
 /// Appends decoded rows, which fit the table and whose texts and byte strings have at most this many bytes.
 fn append(
     alloc: Global,
-    table: &mut Plain,
+    table: &mut Engine,
     asker: Asker,
     offset: Option<i64>,
     rows: Vec<Row>,
@@ -77,7 +78,7 @@ fn append(
         rows: Items::from_vec(rows),
         bytes,
     };
-    let reply = table.step_with(alloc, asker.caller, command, asker.now)?;
+    let reply = table.step(alloc, asker.caller, command, asker.now)?;
     match told(alloc, table.schema().columns(), &reply) {
         Ok(response) => Ok(response),
         Err(Memory) => Err(NoResponse::Lost),
@@ -90,7 +91,7 @@ fn append(
 /// as it was.
 pub fn answer_rows(
     alloc: Global,
-    table: &mut Plain,
+    table: &mut Engine,
     asker: Asker,
     writer: &Writer,
     offset: Option<i64>,

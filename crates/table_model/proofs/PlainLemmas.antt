@@ -24,7 +24,7 @@ use Rattle.table_model.proofs.WalkLemmas.{end_is_sum}
 use Rattle.table_model.proofs.AcceptedLemmas.{answer_by-Accept}
 
 -- a row weighs more than nothing
-length-le-size : (columns : ℕ) (rows : List Row) (bytes : ℕ) → length rows ≤ size_of_rows columns (length rows) bytes
+pub length-le-size : (columns : ℕ) (rows : List Row) (bytes : ℕ) → length rows ≤ size_of_rows columns (length rows) bytes
 length-le-size columns rows bytes =
     let least = mul-le 1 (length rows) (ROW_OVERHEAD + COLUMN_OVERHEAD * columns) (length rows) (omega arith) (omega arith) in
     omega (arith, least)
@@ -46,7 +46,7 @@ end_of-le-weight columns history on =
     rw (end_is_sum history on) (
     sum_by-le-sum_by (λ entry. length (rows_onto on entry.change)) (λ entry. size_added columns entry.change) history (λ entry. rows_onto-le-size columns on entry.change))
 
-light_after : (columns : List Column) (history : History) (caller : ℕ) (c : Change) → IsWithin columns history
+pub light_after : (columns : List Column) (history : History) (caller : ℕ) (c : Change) → IsWithin columns history
     → Makes (facts_of (length columns) history caller) (λ on. state_of history on) c → weight_of (length columns) history + size_added (length columns) c ≤ MAX_WEIGHT
 light_after columns history caller (change.Append on offset rows bytes) within makes = makes.light
 light_after columns history caller (change.Create number kind) within makes = let light = within.light in omega arith

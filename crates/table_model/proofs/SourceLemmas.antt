@@ -33,7 +33,7 @@ use Rattle.table_model.proofs.AcceptedLemmas.{answer_by-Accept}
 use Rattle.table_model.proofs.LawLemmas.{gather-append, state_of-Some}
 use Rattle.table_model.proofs.WalkLemmas.{end_is_sum}
 
-one_stream : (a b : StreamRef) → is_one_stream a b ≡ true → a ≡ b
+pub one_stream : (a b : StreamRef) → is_one_stream a b ≡ true → a ≡ b
 one_stream stream.Default stream.Default e = refl
 one_stream stream.Default (stream.Number b) e = absurd (cc)
 one_stream stream.Default stream.Other e = absurd (cc)
@@ -118,17 +118,17 @@ times-streams history on i (s ∷ more) once =
         last end = grind (arith, nat_tests)
 
 -- What an entry more says of a stream.
-kind_of-push : (history : History) (entry : Entry) (on : StreamRef) → kind_of (history ++ entry ∷ []) on ≡ kind_after on (kind_of history on) entry.change
+pub kind_of-push : (history : History) (entry : Entry) (on : StreamRef) → kind_of (history ++ entry ∷ []) on ≡ kind_after on (kind_of history on) entry.change
 kind_of-push history entry on = fold_push (λ before e. kind_after on before e.change) kind.Committed history entry
 
-flushed_of-push : (history : History) (entry : Entry) (on : StreamRef) → flushed_of (history ++ entry ∷ []) on ≡ flushed_after on (flushed_of history on) entry.change
+pub flushed_of-push : (history : History) (entry : Entry) (on : StreamRef) → flushed_of (history ++ entry ∷ []) on ≡ flushed_after on (flushed_of history on) entry.change
 flushed_of-push history entry on = fold_push (λ before e. flushed_after on before e.change) 0 history entry
 
-committed_of-push : (history : History) (entry : Entry) (on : StreamRef)
+pub committed_of-push : (history : History) (entry : Entry) (on : StreamRef)
     → committed_of (history ++ entry ∷ []) on ≡ (if commits on entry.change then Some entry.moment else committed_of history on)
 committed_of-push history entry on = fold_push (λ before e. if commits on e.change then Some e.moment else before) None history entry
 
-end_of-push : (history : History) (entry : Entry) (on : StreamRef) → end_of (history ++ entry ∷ []) on ≡ end_of history on + length (rows_onto on entry.change)
+pub end_of-push : (history : History) (entry : Entry) (on : StreamRef) → end_of (history ++ entry ∷ []) on ≡ end_of history on + length (rows_onto on entry.change)
 end_of-push history entry on =
     end_is_sum (history ++ entry ∷ []) on
     ∙ sum_by_push (λ e. length (rows_onto on e.change)) history entry
@@ -149,7 +149,7 @@ has_stream-push history entry (stream.Number n) there = let more = streams_of-pu
 has_stream-push history entry stream.Other there = absurd (cc)
 
 -- the default stream is COMMITTED
-kind_of-default : (history : History) (on : StreamRef) → is_default on ≡ true → kind_of history on ≡ kind.Committed
+pub kind_of-default : (history : History) (on : StreamRef) → is_default on ≡ true → kind_of history on ≡ kind.Committed
 kind_of-default history stream.Default e = from history kind.Committed
   where
     stays : (before : StreamKind) (c : Change) → kind_after stream.Default before c ≡ before
@@ -209,19 +209,19 @@ commit_cases false false true end flushed i t p q r e = absurd (cc)
 commit_cases false false false end flushed i t p q r e = grind (arith, nat_tests)
 
 -- a BUFFERED or PENDING stream isn't visible at once
-not_at_once : (history : History) (on : StreamRef) → is_committed_kind (kind_of history on) ≡ false → shows_at_once history on ≡ false
+pub not_at_once : (history : History) (on : StreamRef) → is_committed_kind (kind_of history on) ≡ false → shows_at_once history on ≡ false
 not_at_once history on other = either (is_default on) refl
   where
     either : (b : Bool) → is_default on ≡ b → (b || is_committed_kind (kind_of history on)) ≡ false
     either false e = other
     either true e = absurd (cc (ap is_committed_kind (kind_of-default history on e), other))
 
-buffered_kind : (k : StreamKind) → is_buffered k ≡ true → is_committed_kind k ≡ false
+pub buffered_kind : (k : StreamKind) → is_buffered k ≡ true → is_committed_kind k ≡ false
 buffered_kind kind.Committed e = absurd (cc)
 buffered_kind kind.Pending e = refl
 buffered_kind kind.Buffered e = refl
 
-pending_kind : (k : StreamKind) → is_pending k ≡ true → (is_committed_kind k ≡ false) × (is_buffered k ≡ false)
+pub pending_kind : (k : StreamKind) → is_pending k ≡ true → (is_committed_kind k ≡ false) × (is_buffered k ≡ false)
 pending_kind kind.Committed e = absurd (cc)
 pending_kind kind.Pending e = (refl, refl)
 pending_kind kind.Buffered e = absurd (cc)
@@ -231,10 +231,10 @@ code_cases pending committed finalised =
     if not pending then Some INVALID_STREAM_TYPE else (if committed then Some STREAM_ALREADY_COMMITTED else (if not finalised then Some INVALID_STREAM_STATE else None))
 
 -- What is so of a stream that can be committed.
-abbrev IsGood : Option StreamState → Type 0
+abbrev pub IsGood : Option StreamState → Type 0
 IsGood found = (state : StreamState) × (found ≡ Some state) × (is_pending state.kind ≡ true) × (is_some state.committed ≡ false) × (state.finalised ≡ true)
 
-good_of : (found : Option StreamState) → stream_code found ≡ None → IsGood found
+pub good_of : (found : Option StreamState) → stream_code found ≡ None → IsGood found
 good_of None e = absurd (cc)
 good_of (Some state) e = go (is_pending state.kind) (is_some state.committed) state.finalised refl refl refl e
   where
@@ -245,11 +245,11 @@ good_of (Some state) e = go (is_pending state.kind) (is_some state.committed) st
     go true false false x y z e = absurd (cc)
     go true false true x y z e = (state, refl, x, y, z)
 
-first_good : (n : ℕ) (code : Option ℕ) (errors : List StreamError) → cons_option (error_at n code) errors ≡ [] → (code ≡ None) × (errors ≡ [])
+pub first_good : (n : ℕ) (code : Option ℕ) (errors : List StreamError) → cons_option (error_at n code) errors ≡ [] → (code ≡ None) × (errors ≡ [])
 first_good n None errors e = (refl, e)
 first_good n (Some code) errors e = absurd (cc)
 
-each_good : (look : StreamRef → Option StreamState) (n : ℕ) (xs : List StreamRef) (on : StreamRef)
+pub each_good : (look : StreamRef → Option StreamState) (n : ℕ) (xs : List StreamRef) (on : StreamRef)
     → filter_map (λ item. error_at item.0 (stream_code (look item.1))) (enumerate_from n xs) ≡ [] → list_any (is_one_stream on) xs ≡ true → stream_code (look on) ≡ None
 each_good look n [] on none among = absurd (cc)
 each_good look n (x ∷ xs) on none among =

@@ -53,6 +53,7 @@ pub use replies::{
     STREAM_NOT_FOUND, StreamError, StreamErrors,
 };
 pub use streams::{Refs, StreamKind, StreamRef, StreamState};
+pub use walks::size_added;
 
 #[cfg(test)]
 mod tests;

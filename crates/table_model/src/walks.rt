@@ -84,7 +84,8 @@ pub(crate) fn weight(columns: u32, entries: &[Entry]) -> u64
     weight
 }
 
-fn size_added(columns: u32, change: &Change) -> u64
+/// What a change adds to the weight of a table of this many columns, which is at most the limit of all rows.
+pub fn size_added(columns: u32, change: &Change) -> u64
     requires { size_added_of columns change.now ≤ most_weight }
     ensures { result ≡ size_added_of columns change.now }
 {

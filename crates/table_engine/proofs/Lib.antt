@@ -1,0 +1,3 @@
+mod ShownLemmas
+mod AddLemmas
+mod StepLemmas

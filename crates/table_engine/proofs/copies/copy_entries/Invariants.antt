@@ -1,0 +1,6 @@
+-- The entries so far were copied.
+use Rattle.std.proofs.Common.{◌≡◌, take}
+use Rattle.table_engine.proofs.copies.copy_entries.Given as goal
+
+abbrev pub invariant-loop-entry : goal.invariant-loop-entry
+invariant-loop-entry l = l.copy.items ≡ take l.entry-index l.entries

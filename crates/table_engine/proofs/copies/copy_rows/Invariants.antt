@@ -1,0 +1,6 @@
+-- The rows so far were copied.
+use Rattle.std.proofs.Common.{◌≡◌, take}
+use Rattle.table_engine.proofs.copies.copy_rows.Given as goal
+
+abbrev pub invariant-loop-row : goal.invariant-loop-row
+invariant-loop-row l = l.copy.items ≡ take l.row-index l.rows

@@ -1,0 +1,4 @@
+pub mod Callers
+pub mod Streams
+pub mod Keeps
+pub mod Turns
