@@ -1,7 +1,8 @@
 -- The command that answers one AppendRows body over a table of opaque rows.
-use Rattle.std.specs.Prelude.{◌≡◌, ℕ, Bool, List, [], Option, None, Some, is_some, IfSome}
+use Rattle.std.specs.Prelude.{◌≡◌, ℕ, ◌+◌, Bool, List, [], Option, None, Some, is_some, IfSome}
 use Rattle.outside.specs.Faults.{Rose}
 use Rattle.table_model.specs.declared.opaque_rows.OpaqueEntry.{OpaqueEntry}
+use Rattle.call_body.specs.declared.limits.TheConstants.{BODY_LIMIT}
 use Rattle.call_body.specs.declared.ends.BodyEnd.{BodyEnd}
 use Rattle.call_body.specs.declared.ends.BodyEnd.TheVariants as ends
 use Rattle.bqstored.specs.declared.requests.Request.{Request}
@@ -9,7 +10,7 @@ use Rattle.bqstored.specs.Request.{request_of}
 use Rattle.bqstored.specs.Reply.{reply_at, history_behind}
 use Rattle.table_spec.specs.declared.spec.TableSpec.{TableSpec}
 use Rattle.bqstored.specs.Typed.{is_decodable, AnswersFromTyped, fresh}
-use Rattle.call_body.specs.Ends.{EndsAs, Writes, ReadsAll, HasCause, IsGoodBody, IsDoneOrMemory}
+use Rattle.call_body.specs.Ends.{EndsAs, Writes, ReadsAll, TakesAtMost, HasCause, IsGoodBody, IsDoneOrMemory}
 
 -- a message that can be read
 abbrev pub is_readable : List ℕ → Bool
@@ -28,6 +29,7 @@ pub record BodyRan {S : Type 0} (readable : List ℕ → Bool) (answers : S → 
       × IfSome left0 (λ bytes. (last : S) × EndsAs readable answers bytes replied start last end)
   pub cause : HasCause source_faults0 source_faults sink_faults0 sink_faults end
   pub read : ReadsAll left0 left end
+  pub takes : TakesAtMost (BODY_LIMIT + 1) left0 left
   pub complete : IfSome left0 (λ bytes. IsGoodBody readable bytes → (Rose source_faults0 source_faults → ⊥) → (Rose sink_faults0 sink_faults → ⊥) → IsDoneOrMemory end)
 
 -- Without a table the rows are opaque bytes in one stream, and with one they are typed.

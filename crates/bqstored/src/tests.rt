@@ -6,6 +6,7 @@ use outside::{MemSink, MemSource, Sink, SinkWrite, Source, SourceRead};
 use std::alloc::Global;
 use std::process::Abort;
 use std::test::Fail;
+use table_model::{MAX_ENTRIES, MAX_WEIGHT, ROW_OVERHEAD};
 
 /// A source in memory that gives at most so many bytes at a time, and meets a fault where its calls
 /// are used up.
@@ -163,7 +164,8 @@ fn a_body_ends_in_its_place(rt: HostRuntime) -> Result<(), Fail> {
 
 #[test]
 fn a_fault_has_its_status(rt: HostRuntime) -> Result<(), Fail> {
-    for n in 0..FIRST.len() {
+    // Byte by byte the source is read once for each byte, and once more at the end.
+    for n in 0..FIRST.len() + 1 {
         let (status, _sink) = answer(rt.alloc(), FIRST, 1, n, MANY)?;
         assert_eq!(rt; status, 3);
     }
@@ -187,4 +189,11 @@ fn other_words_do_nothing(rt: HostRuntime) -> Result<(), Fail> {
     assert_eq!(rt; run(rt.alloc(), &[], &mut source, &mut sink), 2);
     assert_eq!(rt; sink.taken().len(), 0);
     Ok(())
+}
+
+#[test]
+fn limits_have_their_figures(rt: HostRuntime) {
+    assert_eq!(rt; MAX_WEIGHT, 268_435_456);
+    assert_eq!(rt; ROW_OVERHEAD, 32);
+    assert_eq!(rt; MAX_ENTRIES, 4_194_304);
 }

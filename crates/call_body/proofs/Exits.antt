@@ -3,14 +3,15 @@ use Rattle.std.proofs.Common.{◌≡◌, ◌≢◌, ℕ, zero, suc, ◌+◌, ◌
 use Rattle.std.specs.Prelude.{Option}
 use Rattle.std.proofs.lemmas.List.{take_all, take-append-le}
 use Rattle.std.specs.Io.KnownBytes.{Appends, Consumes, IsAtEnd, Keeps}
-use Rattle.std.proofs.KnownBytes.{Appends-nil, Appends-trans, Consumes-nil, Consumes-trans, Consumes-whole}
+use Rattle.std.proofs.KnownBytes.{Appends-nil, Appends-trans, Consumes-kept, Consumes-nil, Consumes-trans, Consumes-whole}
+use Rattle.outside.specs.Streams.{SameWhereTold}
 use Rattle.grpc_frame.specs.Part.{part_of}
 use Rattle.grpc_frame.specs.declared.part.Part.TheVariants as part
 use Rattle.call_body.specs.declared.limits.TheConstants.{BODY_LIMIT}
 use Rattle.call_body.specs.declared.ends.BodyEnd.{BodyEnd}
 use Rattle.call_body.specs.declared.ends.BodyEnd.TheVariants as ends
 use Rattle.call_body.specs.Reading.{Reads, IsStop, IsUnfinished, AppendsWhereTold}
-use Rattle.call_body.specs.Ends.{EndsAs, ReadsPartly, Writes}
+use Rattle.call_body.specs.Ends.{EndsAs, ReadsPartly, TakesAtMost, Writes}
 use Rattle.call_body.proofs.At.{At}
 use Rattle.call_body.proofs.ReadsLemmas.{IsStop-behind, Reads-append, Reads-behind, Reads-none, ReadsPartly-all, ReadsPartly-append, ReadsPartly-behind, take-append}
 
@@ -52,6 +53,19 @@ end-kept None left next bytes consumed end kept = tt
 end-kept (Some all) None next bytes consumed end kept = absurd consumed
 end-kept (Some all) (Some rest) None bytes consumed end kept = absurd kept
 end-kept (Some all) (Some rest) (Some more) bytes consumed end kept = kept ∙ end
+
+-- the bytes taken are so many at most
+pub takes : (most : ℕ) (left0 left : Option (List ℕ)) (bytes : List ℕ) → Consumes left0 left bytes → length bytes ≤ most → TakesAtMost most left0 left
+takes most None left bytes consumed few = tt
+takes most (Some all) None bytes consumed few = absurd consumed
+takes most (Some all) (Some rest) bytes consumed few = (bytes, few, consumed)
+
+-- a fault takes no byte, where the source tells still what is left
+takes-same : (most : ℕ) (left0 left next : Option (List ℕ)) (bytes : List ℕ) → Consumes left0 left bytes → length bytes ≤ most → SameWhereTold left next → TakesAtMost most left0 next
+takes-same most None left next bytes consumed few same = tt
+takes-same most (Some all) None next bytes consumed few same = absurd consumed
+takes-same most (Some all) (Some rest) None bytes consumed few same = tt
+takes-same most (Some all) (Some rest) (Some more) bytes consumed few same = (bytes, few, consumed ∙ ap (λ l. bytes ++ l) (sym same))
 
 module _ {S : Type 0} (readable : List ℕ → Bool) (answers : S → List ℕ → List ℕ → S → Type 0) where
   -- what a body's end is owed
@@ -104,6 +118,35 @@ module _ {S : Type 0} (readable : List ℕ → Bool) (answers : S → List ℕ �
     reads = Reads-append readable answers (take BODY_LIMIT at.bytes) held rest at.replied replied old mid new at.reads first;
     written = Appends-trans taken0 taken next at.replied replied at.written more;
   }
+
+  At-few : (left0 left taken0 taken : Option (List ℕ)) (old new : S) (held : List ℕ) (read : ℕ) (at : At readable answers left0 left taken0 taken old new held read)
+      → length at.bytes ≤ BODY_LIMIT + 1
+  At-few left0 left taken0 taken old new held read at = rw at.counted at.most
+
+  -- no more bytes were taken than those of the longest body and one
+  pub At-takes : (left0 left taken0 taken : Option (List ℕ)) (old new : S) (held : List ℕ) (read : ℕ)
+      → At readable answers left0 left taken0 taken old new held read → TakesAtMost (BODY_LIMIT + 1) left0 left
+  At-takes left0 left taken0 taken old new held read at = takes (BODY_LIMIT + 1) left0 left at.bytes at.consumed (At-few left0 left taken0 taken old new held read at)
+
+  -- nor at the end of the input
+  pub At-takes-end : (left0 left next taken0 taken : Option (List ℕ)) (old new : S) (held : List ℕ) (read : ℕ)
+      → At readable answers left0 left taken0 taken old new held read → Keeps left next → TakesAtMost (BODY_LIMIT + 1) left0 next
+  At-takes-end left0 left next taken0 taken old new held read at kept =
+      takes (BODY_LIMIT + 1) left0 next at.bytes (Consumes-kept left0 left next at.bytes at.consumed kept) (At-few left0 left taken0 taken old new held read at)
+
+  -- nor at a fault
+  pub At-takes-same : (left0 left next taken0 taken : Option (List ℕ)) (old new : S) (held : List ℕ) (read : ℕ)
+      → At readable answers left0 left taken0 taken old new held read → SameWhereTold left next → TakesAtMost (BODY_LIMIT + 1) left0 next
+  At-takes-same left0 left next taken0 taken old new held read at same =
+      takes-same (BODY_LIMIT + 1) left0 left next at.bytes at.consumed (At-few left0 left taken0 taken old new held read at) same
+
+  -- nor with a piece more
+  pub At-takes-piece : (left0 left next taken0 taken : Option (List ℕ)) (old new : S) (held piece : List ℕ) (read : ℕ)
+      → At readable answers left0 left taken0 taken old new held read → read ≤ BODY_LIMIT → length piece ≤ BODY_LIMIT - read + 1 → Consumes left next piece
+      → TakesAtMost (BODY_LIMIT + 1) left0 next
+  At-takes-piece left0 left next taken0 taken old new held piece read at within few more =
+      let counted = at.counted in
+      takes (BODY_LIMIT + 1) left0 next (at.bytes ++ piece) (Consumes-trans left0 left next at.bytes piece at.consumed more) (simp length-append (omega arith))
 
   -- the input ended, and no byte is held
   pub ends-done : (left0 left taken0 taken : Option (List ℕ)) (old new : S) (held : List ℕ) (read : ℕ)

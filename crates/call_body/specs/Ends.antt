@@ -1,5 +1,5 @@
 -- How a body ends, by its bytes and by the framed replies that were written.
-use Rattle.std.specs.Prelude.{◌≡◌, ◌≢◌, ℕ, ◌<◌, ◌≤◌, Bool, IsTrue, List, [], ◌++◌, length, take, Option, IfSome}
+use Rattle.std.specs.Prelude.{◌≡◌, ◌≢◌, ℕ, ◌<◌, ◌≤◌, Bool, IsTrue, List, [], ◌++◌, length, take, ⊤, Option, None, Some, IfSome}
 use Rattle.std.specs.Io.KnownBytes.{Appends, IsAtEnd}
 use Rattle.std.specs.List.{AllByRecursion}
 use Rattle.std.proofs.Common.{◌⊎◌}
@@ -37,6 +37,12 @@ Writes before now replied _ = Appends before now replied
 abbrev pub ReadsAll : Option (List ℕ) → Option (List ℕ) → BodyEnd → Type 0
 ReadsAll left0 left ends.Done = IfSome left0 (λ _. IsAtEnd left)
 ReadsAll left0 left _ = Unit {0}
+
+-- so many bytes were taken from the source at most, where it tells still what is left
+abbrev pub TakesAtMost : ℕ → Option (List ℕ) → Option (List ℕ) → Type 0
+TakesAtMost most None left = ⊤
+TakesAtMost most (Some all) None = ⊤
+TakesAtMost most (Some all) (Some rest) = (front : List ℕ) × (length front ≤ most) × (all ≡ front ++ rest)
 
 -- Outside comes only where a count of faults rose, and a count rises only with Outside
 abbrev pub HasCause : ℕ → ℕ → ℕ → ℕ → BodyEnd → Type 0

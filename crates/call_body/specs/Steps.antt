@@ -3,6 +3,7 @@ use Rattle.std.specs.Prelude.{◌≡◌, ℕ, ◌+◌, ◌<◌, ◌≤◌, Bool,
 use Rattle.std.specs.Io.KnownBytes.{Appends, Consumes, IsAtEnd, Keeps}
 use Rattle.std.proofs.Common.{◌⊎◌}
 use Rattle.outside.specs.Faults.{Rose}
+use Rattle.outside.specs.Streams.{SameWhereTold}
 use Rattle.grpc_frame.specs.Frame.{frame}
 use Rattle.call_body.specs.declared.pieces.Fed.{Fed}
 use Rattle.call_body.specs.declared.pieces.Fed.TheVariants as fed
@@ -16,8 +17,9 @@ abbrev pub FeedsPiece : ℕ → Option (List ℕ) → Option (List ℕ) → List
 FeedsPiece room left0 left held0 held faults0 faults (fed.Bytes n) =
     (piece : List ℕ) × (length piece ≡ n) × (0 < n) × (n ≤ room + 1) × Consumes left0 left piece × (held ≡ held0 ++ take room piece) × (faults ≡ faults0)
 FeedsPiece room left0 left held0 held faults0 faults fed.End = IsAtEnd left0 × Keeps left0 left × (held ≡ held0) × (faults ≡ faults0)
-FeedsPiece room left0 left held0 held faults0 faults fed.Outside = Rose faults0 faults
-FeedsPiece room left0 left held0 held faults0 faults fed.Memory = faults ≡ faults0
+FeedsPiece room left0 left held0 held faults0 faults fed.Outside = SameWhereTold left0 left × Rose faults0 faults
+FeedsPiece room left0 left held0 held faults0 faults fed.Memory =
+    ((piece : List ℕ) × (length piece ≤ room + 1) × Consumes left0 left piece) × (faults ≡ faults0)
 
 -- the messages held are answered, up to an unfinished one or up to one that stops the body
 abbrev pub StepsTo : {S : Type 0} → (List ℕ → Bool) → (S → List ℕ → List ℕ → S → Type 0) → List ℕ → List ℕ → S → S → Option (List ℕ) → Option (List ℕ) → Step → Type 0

@@ -1,6 +1,7 @@
-ghost use Rattle.std.specs.Prelude.{◌≡◌, ◌<◌, List, ℕ, IfSome, length};
+ghost use Rattle.std.specs.Prelude.{◌≡◌, ◌+◌, ◌<◌, List, ℕ, IfSome, length};
 ghost use Rattle.outside.specs.Faults.{Rose};
-ghost use Rattle.call_body.specs.Ends.{EndsAs, Writes, ReadsAll, HasCause, IsGoodBody, IsDoneOrMemory};
+ghost use Rattle.call_body.specs.declared.limits.TheConstants.{BODY_LIMIT};
+ghost use Rattle.call_body.specs.Ends.{EndsAs, Writes, ReadsAll, TakesAtMost, HasCause, IsGoodBody, IsDoneOrMemory};
 
 use crate::answering::Answers;
 use crate::ends::BodyEnd;
@@ -24,6 +25,7 @@ fn read_body<A: Answers, I: Source, O: Sink>(
         × IfSome (I.left input.old) (λ bytes. EndsAs A.readable A.answers bytes replied answers.old answers.new result) }
     ensures cause { HasCause (I.faults input.old) (I.faults input.new) (O.faults out.old) (O.faults out.new) result }
     ensures read { ReadsAll (I.left input.old) (I.left input.new) result }
+    ensures takes { TakesAtMost (BODY_LIMIT + 1) (I.left input.old) (I.left input.new) }
 {
     let mut deframer = Deframer::new(alloc, MESSAGE_LIMIT);
     let mut read: usize = 0;
@@ -60,6 +62,7 @@ pub fn answer_body<A: Answers, I: Source, O: Sink>(
         × IfSome (I.left input.old) (λ bytes. EndsAs A.readable A.answers bytes replied answers.old answers.new result) }
     ensures cause { HasCause (I.faults input.old) (I.faults input.new) (O.faults out.old) (O.faults out.new) result }
     ensures read { ReadsAll (I.left input.old) (I.left input.new) result }
+    ensures takes { TakesAtMost (BODY_LIMIT + 1) (I.left input.old) (I.left input.new) }
     ensures complete { IfSome (I.left input.old) (λ bytes. IsGoodBody A.readable bytes
         → (Rose (I.faults input.old) (I.faults input.new) → ⊥)
         → (Rose (O.faults out.old) (O.faults out.new) → ⊥) → IsDoneOrMemory result) }

@@ -1,3 +1,6 @@
+ghost use Rattle.std.specs.Prelude.{◌≡◌};
+ghost use Rattle.call_body.specs.declared.limits.TheConstants.{MESSAGE_LIMIT, BODY_LIMIT};
+
 /// The longest message of a call, in bytes.
 pub const MESSAGE_LIMIT: u32 = 10_485_760;
 
@@ -6,3 +9,9 @@ pub const BODY_LIMIT: usize = 1_073_741_824;
 
 /// How many bytes are asked of the source at a time, at most.
 pub const PIECE_LEN: usize = 65_536;
+
+/// The limits in figures, as a law. It does nothing when it runs.
+pub fn limits_in_figures()
+    ensures message { MESSAGE_LIMIT ≡ 10485760 }
+    ensures body { BODY_LIMIT ≡ 1073741824 }
+{}

@@ -11,6 +11,7 @@ returns g c =
         ending = (ran.ending.0, ran.ending.1, with_last _ _ _ _ _ _ _ ran.ending.2);
         cause = ran.cause;
         read = ran.read;
+        takes = ran.takes;
         complete = ran.complete;
       };
     }
