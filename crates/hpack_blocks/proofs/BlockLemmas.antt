@@ -59,7 +59,7 @@ fields_head (b ∷ bytes) t t' f (suc used) some one within e =
     let left : suc used - 1 ≡ used = omega arith in
     rw (e, left, fields_skip bytes t' used (omega arith)) (joined f (fields_from t' 0 (drop used bytes)))
 
-fields_bad : (bytes : List ℕ) (t : Table) → 0 < length bytes → field_at t bytes ≡ None → fields_from t 0 bytes ≡ None
+pub fields_bad : (bytes : List ℕ) (t : Table) → 0 < length bytes → field_at t bytes ≡ None → fields_from t 0 bytes ≡ None
 unfolding fields_from
 fields_bad [] t some e = absurd (omega arith)
 fields_bad (b ∷ bytes) t some e = rw e refl
@@ -109,7 +109,7 @@ update_head (b ∷ bytes) t t' (suc used) some is one within e =
     let left : suc used - 1 ≡ used = omega arith in
     rw (is, e, left) (block_skip bytes t' used (omega arith))
 
-update_refused : (bytes : List ℕ) (t : Table) → 0 < length bytes → is_update (get_or bytes 0 0) ≡ true → update_at t bytes ≡ None → block_from t 0 bytes ≡ None
+pub update_refused : (bytes : List ℕ) (t : Table) → 0 < length bytes → is_update (get_or bytes 0 0) ≡ true → update_at t bytes ≡ None → block_from t 0 bytes ≡ None
 unfolding block_from
 update_refused [] t some is e = absurd (omega arith)
 update_refused (b ∷ bytes) t some is e = rw (is, e) refl

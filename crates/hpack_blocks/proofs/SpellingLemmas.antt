@@ -5,8 +5,8 @@ use Rattle.std.specs.Prelude.{IfOk, Result, ◌&&◌, slice_get}
 use Rattle.std.specs.List.{flat_map, AllByRecursion, position_from}
 use Rattle.std.specs.Result.{result_ok}
 use Rattle.std.specs.Str.{bytes_eq}
-use Rattle.std.proofs.lemmas.Bool.{cases_lt, cases_Bool, and_parts, and_right, lt-ltb, le-ltb, le-leb, lt-leb}
-use Rattle.std.proofs.lemmas.List.{length-append, take_at, drop_at, drop-drop}
+use Rattle.std.proofs.lemmas.Bool.{cases_lt, cases_Bool, and_parts, and_right, lt-ltb, le-ltb, lt-leb}
+use Rattle.std.proofs.lemmas.List.{length-append, take_at, drop_at}
 use Rattle.std.proofs.lemmas.List.Concat.{flat_map-cons}
 use Rattle.std.proofs.lemmas.List.Elements.{recursion_from_All}
 use Rattle.std.proofs.lemmas.Slice.Eq.{bytes_eq-Decides}
@@ -21,6 +21,7 @@ use Rattle.hpack_blocks.specs.Reading.{number_at, string_at, name_at, literal_at
 use Rattle.hpack_blocks.specs.Block.{fields_from, block_from, block_of, is_update}
 use Rattle.hpack_blocks.specs.Spelling.{Fits, string_spelling, literal_spelling, spelling_at, field_spelling, block_spelling, place_of_field, place_of_name, BlockReadsBack}
 use Rattle.hpack_blocks.proofs.TableLemmas.{entry_at-static}
+use Rattle.hpack_blocks.proofs.FieldLemmas.{literal_parts, field_at-indexed, field_at-literal}
 use Rattle.hpack_blocks.proofs.BlockLemmas.{with_fields, fields_head, fields_end, update_head, update_none}
 
 -- an integer
@@ -132,16 +133,6 @@ unfolding indexed_at
 indexed_back entries place f rest p =
     rw (number_back 128 7 (place + 1) rest refl (omega (arith, p.within)), entry_back entries place f p) refl
 
--- the parts of a literal
-literal_parts : (entries : List Field) (bytes h n v rest : List ℕ) (f : Field) (index : ℕ) → bytes ≡ h ++ (n ++ (v ++ rest)) → number_at 4 bytes ≡ Some (index, length h)
-    → name_at entries index (n ++ (v ++ rest)) ≡ Some (f.name, length n) → string_at (v ++ rest) ≡ Some (f.value, length v)
-    → literal_at entries 4 bytes ≡ Some (f, length h + length n + length v)
-unfolding literal_at
-literal_parts entries bytes h n v rest f index split number name value =
-    let behind : drop (length h) bytes ≡ n ++ (v ++ rest) = rw split (drop_at h (n ++ (v ++ rest)) (length h) refl) in
-    let last : drop (length h + length n) bytes ≡ v ++ rest = sym (drop-drop (length n) (length h) bytes) ∙ ap (drop (length n)) behind ∙ drop_at n (v ++ rest) (length n) refl in
-    rw (number, behind, name, last, value) refl
-
 name_at-zero : (entries : List Field) (bytes : List ℕ) → name_at entries 0 bytes ≡ string_at bytes
 unfolding name_at
 name_at-zero entries bytes = refl
@@ -162,7 +153,7 @@ literal_back entries None f rest is fits =
     let number : number_at 4 (((h ++ n) ++ v) ++ rest) ≡ Some (0, length h) = ap (number_at 4) split ∙ number_back 0 4 0 (n ++ (v ++ rest)) refl (omega arith) in
     let name = name_at-zero entries (n ++ (v ++ rest)) ∙ string_back f.name (v ++ rest) fits.name in
     let total : length h + length n + length v ≡ length ((h ++ n) ++ v) = omega (arith, length-append (h ++ n) v, length-append h n) in
-    literal_parts entries (((h ++ n) ++ v) ++ rest) h n v rest f 0 split number name (string_back f.value rest fits.value) ∙ ap (λ k. Some (f, k)) total
+    literal_parts entries 4 (((h ++ n) ++ v) ++ rest) h n v rest f 0 split number name (string_back f.value rest fits.value) ∙ ap (λ k. Some (f, k)) total
 literal_back entries (Some place) f rest is fits =
     let h = int_spelling 0 4 (place + 1) in
     let v = string_spelling f.value in
@@ -171,18 +162,9 @@ literal_back entries (Some place) f rest is fits =
     let number : number_at 4 ((h ++ v) ++ rest) ≡ Some (place + 1, length h) = ap (number_at 4) split ∙ number_back 0 4 (place + 1) (v ++ rest) refl (omega (arith, p.1.within)) in
     let name : name_at entries (place + 1) (v ++ rest) ≡ Some (f.name, 0) = name_at-entry entries place p.0 (v ++ rest) (entry_back entries place p.0 p.1) ∙ ap (λ (n : List ℕ). Some (n, 0)) p.2 in
     let total : length h + 0 + length v ≡ length (h ++ v) = omega (arith, length-append h v) in
-    literal_parts entries ((h ++ v) ++ rest) h [] v rest f (place + 1) split number name (string_back f.value rest fits.value) ∙ ap (λ k. Some (f, k)) total
+    literal_parts entries 4 ((h ++ v) ++ rest) h [] v rest f (place + 1) split number name (string_back f.value rest fits.value) ∙ ap (λ k. Some (f, k)) total
 
 -- ---- fields
-
-field_at-indexed : (t : Table) (bytes : List ℕ) (f : Field) (used : ℕ) → 128 ≤ get_or bytes 0 0 → indexed_at t.entries bytes ≡ Some (f, used) → field_at t bytes ≡ Some (f, t, used)
-unfolding field_at
-field_at-indexed t bytes f used high e = rw (le-leb 128 (get_or bytes 0 0) high, e) refl
-
-field_at-literal : (t : Table) (bytes : List ℕ) (f : Field) (used : ℕ) → get_or bytes 0 0 < 32 → literal_at t.entries 4 bytes ≡ Some (f, used) → field_at t bytes ≡ Some (f, t, used)
-unfolding field_at
-field_at-literal t bytes f used low e =
-    rw (lt-leb 128 (get_or bytes 0 0) (omega arith), lt-leb 64 (get_or bytes 0 0) (omega arith), lt-leb 32 (get_or bytes 0 0) low, e) refl
 
 int_some : (first prefix v : ℕ) → 1 ≤ length (int_spelling first prefix v)
 unfolding int_spelling

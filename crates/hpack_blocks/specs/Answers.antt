@@ -6,6 +6,7 @@ use Rattle.hpack_blocks.specs.declared.faults.BlockFault.TheVariants.{Memory, Ba
 use Rattle.hpack_blocks.specs.declared.listed.Listed.{Listed}
 use Rattle.hpack_blocks.specs.Table.{Table, list_size}
 use Rattle.hpack_blocks.specs.Block.{Block, fields_from, block_of}
+use Rattle.hpack_blocks.specs.Grammar.{IsBlock}
 
 -- a decoder with this table, or one that answers a fault from now on
 pub data Standing : Type 0 where
@@ -34,7 +35,7 @@ counted n = min n (2 ^ 64 - 1)
 -- the fields of a list that is being read, and what they count; the fields are let go once they
 -- count more than the largest list
 abbrev pub IsListed : Listed → List Field → Type 0
-IsListed l fields = (l.size ≡ counted (list_size fields)) × (l.size ≤ MAX → l.fields.items ≡ fields)
+IsListed l fields = (l.size ≡ counted (list_size fields)) × (l.size ≤ MAX → l.fields.items ≡ fields) × (MAX < l.size → l.fields.items ≡ [])
 
 -- one more field
 abbrev pub Grows : Listed → Listed → Field → Type 0
@@ -66,3 +67,10 @@ abbrev pub Decodes : Standing → List ℕ → Result (List Field) BlockFault �
 Decodes (Open t) block result new = Answers result (block_of t block) new
 Decodes Bad block result new = (result ≡ Err BadBlock) × (new ≡ Bad)
 Decodes Lost block result new = (result ≡ Err Memory) × (new ≡ Lost)
+
+-- the answer of an open decoder to a block, by the grammar
+abbrev pub Follows : Result (List Field) BlockFault → Table → List ℕ → Standing → Type 0
+Follows (Ok fields) t block new = (after : Table) × IsBlock t block fields after × (list_size fields ≤ MAX) × (new ≡ Open after)
+Follows (Err (TooLarge size)) t block new = (fields : List Field) × (after : Table) × IsBlock t block fields after × (MAX < list_size fields) × (size ≡ counted (list_size fields)) × (new ≡ Open after)
+Follows (Err BadBlock) t block new = ((fields : List Field) (after : Table) → IsBlock t block fields after → ⊥) × (new ≡ Bad)
+Follows (Err Memory) t block new = new ≡ Lost

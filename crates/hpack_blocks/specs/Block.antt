@@ -1,4 +1,5 @@
--- A header block: RFC 7541, sections 3 and 4.2. Size updates stand at its start, and fields follow.
+-- How a header block is read: RFC 7541, sections 3 and 4.2. Size updates stand at its start, and fields
+-- follow. The grammar itself is in Grammar; the two agree by the law `reads_the_grammar`.
 use Rattle.std.specs.Prelude.{ℕ, zero, suc, ◌-◌, ◌&&◌, nat_lt, nat_le, Bool, List, [], ◌∷◌, Option, Some, None, if◌then◌else◌}
 use Rattle.hpack_blocks.specs.declared.fields.Field.{Field}
 use Rattle.hpack_blocks.specs.Table.{Table}

@@ -1,7 +1,9 @@
 pub mod Static
 pub mod Table
 pub mod Reading
+pub mod Texts
 pub mod Block
+pub mod Grammar
 pub mod Answers
 pub mod Standing
 pub mod Spelling

@@ -1,5 +1,6 @@
 ghost use Rattle.std.specs.Prelude.{◌≡◌, ◌≤◌, [], length, drop, IfOk};
-ghost use Rattle.hpack_blocks.specs.Answers.{Open, ReadsBlock, ReadsUpdates, Decodes};
+ghost use Rattle.hpack_blocks.specs.Answers.{Open, ReadsBlock, ReadsUpdates, Follows, Decodes};
+ghost use Rattle.hpack_blocks.specs.Table.{Table};
 ghost use Rattle.hpack_blocks.specs.Block.{block_of, fields_from, is_update};
 
 use crate::dynamic_table::DynamicTable;
@@ -56,6 +57,16 @@ impl Decoder {
     /// `TooLarge` comes exactly where the block is good and the size of its list is above 16,384; the
     /// table is then as after the block. After `Memory` every later block is answered so.
     pub fn decode(&mut self, alloc: Global, block: &[u8]) -> Result<FieldList, BlockFault>
+        // By the grammar: what the block says of the fields and of the table behind it.
+        ensures grammar { (t : Table) → self.old ≡ Open t → Follows result t block.now self.new }
+        // By the function that reads a block, and what is answered after a fault.
+        ensures exact { Decodes self.old block.now result self.new }
+    {
+        self.decode_next(alloc, block)
+    }
+
+    /// The answer to the next block.
+    fn decode_next(&mut self, alloc: Global, block: &[u8]) -> Result<FieldList, BlockFault>
         ensures { Decodes self.old block.now result self.new }
     {
         match self.state {
@@ -109,7 +120,7 @@ fn read_updates(table: &mut DynamicTable, block: &[u8]) -> Result<usize, BlockFa
 fn read_fields(alloc: Global, table: &mut DynamicTable, bytes: &[u8]) -> Result<Listed, BlockFault>
     ensures { ReadsBlock result (fields_from table.old 0 bytes.now) table.new }
 {
-    let mut list = Listed::new(alloc);
+    let mut list = Listed::new(alloc)?;
     let mut at = 0;
     while at < bytes.len() {
         let used = read_field(alloc, table, &mut list, &bytes[at..])?;

@@ -2,14 +2,13 @@ ghost use Rattle.std.specs.Prelude.{◌≡◌, ◌+◌, ◌<◌, ◌≤◌, leng
 ghost use Rattle.hpack_blocks.specs.Table.{entry_at};
 ghost use Rattle.hpack_blocks.specs.Answers.{Gives, ReadsField};
 ghost use Rattle.hpack_blocks.specs.Reading.{name_at, literal_at, indexed_at, field_at, update_at};
+ghost use Rattle.hpack_blocks.specs.Texts.{octets_in, field_in};
 
 use crate::dynamic_table::{DynamicTable, MAX_TABLE_SIZE};
 use crate::faults::BlockFault;
-use crate::fields::Field;
-use crate::listed::Listed;
+use crate::listed::{FieldText, Listed};
 use crate::static_table::{STATIC_LEN, static_entry};
-use crate::strings::{read_number, read_string};
-use outside::Blob;
+use crate::strings::{Text, read_number, read_string};
 use std::alloc::Global;
 
 /// The name and value of an index: 1 to 61 are the static table's, the next is the newest entry of
@@ -34,32 +33,30 @@ fn entry_of(table: &DynamicTable, index: u32) -> Option<(&[u8], &[u8])>
 
 /// An indexed field (RFC 7541, section 6.1).
 #[tactic(auto, unfolding(crate::specs::Reading::indexed_at))]
-fn read_indexed(
-    alloc: Global,
-    table: &DynamicTable,
+fn read_indexed<'a>(
+    table: &'a DynamicTable,
     bytes: &[u8],
-) -> Result<(Field, usize), BlockFault>
-    ensures reads { Gives (λ x. x) result (indexed_at table.now.entries bytes.now) }
+) -> Result<(FieldText<'a>, usize), BlockFault>
+    ensures reads { Gives (λ x. (field_in x.0, x.1)) result (indexed_at table.now.entries bytes.now) }
     ensures within { IfOk result (λ x. (1 ≤ x.1) × (x.1 ≤ length bytes.now)) }
 {
     let (index, used) = read_number(bytes, 7)?;
     let Some((name, value)) = entry_of(table, index) else {
         return Err(BlockFault::BadBlock);
     };
-    let name = Blob::of(alloc, name)?;
-    let value = Blob::of(alloc, value)?;
-    Ok((Field { name, value }, used))
+    let (name, value) = (Text::InPlace(name), Text::InPlace(value));
+    Ok((FieldText { name, value }, used))
 }
 
 /// The name of a literal: that of an entry, or for index 0 a string.
 #[tactic(auto, unfolding(crate::specs::Reading::name_at))]
-fn read_name(
+fn read_name<'a>(
     alloc: Global,
-    table: &DynamicTable,
+    table: &'a DynamicTable,
     index: u32,
-    bytes: &[u8],
-) -> Result<(Blob, usize), BlockFault>
-    ensures reads { Gives (λ x. x) result (name_at table.now.entries index bytes.now) }
+    bytes: &'a [u8],
+) -> Result<(Text<'a>, usize), BlockFault>
+    ensures reads { Gives (λ x. (octets_in x.0, x.1)) result (name_at table.now.entries index bytes.now) }
     ensures within { IfOk result (λ x. x.1 ≤ length bytes.now) }
 {
     if index == 0 {
@@ -68,26 +65,26 @@ fn read_name(
     let Some((name, _)) = entry_of(table, index) else {
         return Err(BlockFault::BadBlock);
     };
-    Ok((Blob::of(alloc, name)?, 0))
+    Ok((Text::InPlace(name), 0))
 }
 
 /// A literal field (RFC 7541, section 6.2).
 #[tactic(auto, unfolding(crate::specs::Reading::literal_at))]
-fn read_literal(
+fn read_literal<'a>(
     alloc: Global,
-    table: &DynamicTable,
-    bytes: &[u8],
+    table: &'a DynamicTable,
+    bytes: &'a [u8],
     prefix: u32,
-) -> Result<(Field, usize), BlockFault>
+) -> Result<(FieldText<'a>, usize), BlockFault>
     requires some { 1 ≤ prefix }
     requires most { prefix ≤ 8 }
-    ensures reads { Gives (λ x. x) result (literal_at table.now.entries prefix bytes.now) }
+    ensures reads { Gives (λ x. (field_in x.0, x.1)) result (literal_at table.now.entries prefix bytes.now) }
     ensures within { IfOk result (λ x. (1 ≤ x.1) × (x.1 ≤ length bytes.now)) }
 {
     let (index, start) = read_number(bytes, prefix)?;
     let (name, name_len) = read_name(alloc, table, index, &bytes[start..])?;
     let (value, value_len) = read_string(alloc, &bytes[start + name_len..])?;
-    Ok((Field { name, value }, start + name_len + value_len))
+    Ok((FieldText { name, value }, start + name_len + value_len))
 }
 
 /// Reads the field at the head of the bytes into the list, and gives the number of its bytes.
@@ -103,13 +100,14 @@ pub fn read_field(
 {
     let first = bytes[0];
     if first >= 128 {
-        let (field, used) = read_indexed(alloc, table, bytes)?;
-        list.push(field)?;
+        let (field, used) = read_indexed(table, bytes)?;
+        list.push(alloc, field)?;
         return Ok(used);
     }
     if first >= 64 {
         let (field, used) = read_literal(alloc, table, bytes, 6)?;
         list.push_copy(alloc, &field)?;
+        let field = field.into_field(alloc)?;
         table.add(field)?;
         return Ok(used);
     }
@@ -117,7 +115,7 @@ pub fn read_field(
         return Err(BlockFault::BadBlock);
     }
     let (field, used) = read_literal(alloc, table, bytes, 4)?;
-    list.push(field)?;
+    list.push(alloc, field)?;
     Ok(used)
 }
 

@@ -127,7 +127,7 @@ fn writes_integers(rt: HostRuntime) -> Result<(), Fail> {
 
 #[test]
 fn decodes_the_standards_strings(rt: HostRuntime) -> Result<(), Fail> {
-    let cases: [(&[u8], &str); 10] = [
+    let cases: [(&[u8], &str); 11] = [
         (
             &[
                 0xf1, 0xe3, 0xc2, 0xe5, 0xf2, 0x3a, 0x6b, 0xa0, 0xab, 0x90, 0xf4, 0xff,
@@ -161,6 +161,7 @@ fn decodes_the_standards_strings(rt: HostRuntime) -> Result<(), Fail> {
         ),
         (&[0x64, 0x0e, 0xff], "307"),
         (&[0x9b, 0xd9, 0xab], "gzip"),
+        (&[0xfc], "X"),
     ];
     for (bytes, want) in cases {
         let text = huffman_decode(rt.alloc(), bytes)?;

@@ -6,7 +6,7 @@ use Rattle.hpack_blocks.proofs.decoder.read_fields.Goals as goal
 
 pub returns-in_err-used : goal.returns-in_err-used
 returns-in_err-used c =
-    let p = err_from_is_err_and c.from_residual.result c.from_residual.ensures.1 in
+    let p = err_from_is_err_and c.from_residual-in_err-used.result c.from_residual-in_err-used.ensures.1 in
     let failed = rw (slice_rest c.args.bytes.now c.loop-at.at) at c.in_err-used.ensures in
     rw (p.1, p.2) (is_read-bad c.in_err-used.field-0.0 c.loop-at.list c.loop-at.table c.args.bytes.now c.loop-at.at _ c.loop-at-test.true c.loop-at.invariant.1 failed)
 

@@ -3,4 +3,4 @@ use Rattle.hpack_blocks.proofs.TableLemmas.{no_size}
 use Rattle.hpack_blocks.proofs.listed.Listed.new.Goals as goal
 
 pub returns : goal.returns
-returns c = (omega (arith, no_size), λ h. c.new.ensures.items)
+returns c = (omega (arith, no_size), λ h. c.in_ok-with_capacity.ensures.items, λ h. c.in_ok-with_capacity.ensures.items)

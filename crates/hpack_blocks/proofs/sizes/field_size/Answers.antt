@@ -1,5 +1,0 @@
-use Rattle.std.proofs.Common.{arith}
-use Rattle.hpack_blocks.proofs.sizes.field_size.Goals as goal
-
-pub returns : goal.returns
-returns c = omega (arith, c.saturating_add.ensures, c.saturating_add-2.ensures, c.len.ensures, c.len-2.ensures)
