@@ -1,3 +1,4 @@
 mod ShownLemmas
 mod AddLemmas
 mod StepLemmas
+mod MachineLemmas

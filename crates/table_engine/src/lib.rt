@@ -12,9 +12,11 @@
 mod callers;
 mod copies;
 mod engine;
+mod laws;
 mod streams;
 
 pub use engine::Engine;
+pub use laws::machine_histories_are_legal;
 pub use table_spec::TableSpec;
 
 #[cfg(test)]
