@@ -8,3 +8,6 @@ pub mod Values
 pub mod Moments
 pub mod Sizes
 pub mod OneAnswer
+pub mod Valued
+pub mod Ranges
+pub mod Typed

@@ -31,7 +31,7 @@ prefix_more : (v : Bool) (n m : ℕ) → n ≤ m → cond v (1 + n) 0 ≤ suc m
 prefix_more true n m h = omega arith
 prefix_more false n m h = omega arith
 
-prefix_le : (p : ℕ → Bool) (bytes : List ℕ) → prefix_len p bytes ≤ length bytes
+pub prefix_le : (p : ℕ → Bool) (bytes : List ℕ) → prefix_len p bytes ≤ length bytes
 prefix_le p [] = omega arith
 prefix_le p (b ∷ bytes) = prefix_more (p b) (prefix_len p bytes) (length bytes) (prefix_le p bytes)
 

@@ -1,6 +1,7 @@
 //! Restrictions, read whole.
 
-ghost use Rattle.std.specs.Prelude.{◌≡◌, ◌≤◌, ◌<◌, ◌+◌, ◌⊎◌, ◌↔◌, ℕ, IsTrue, IsUtf8, length, if◌then◌else◌, List, Result};
+ghost use Rattle.std.specs.Prelude.{◌≡◌, ◌≤◌, ◌<◌, ◌+◌, ◌⊎◌, ◌↔◌, ℕ, IfOk, IsTrue, IsUtf8, length, if◌then◌else◌, List, Result};
+ghost use Rattle.column_types.specs.Typed.{IsTyped};
 ghost use Rattle.column_types.specs.declared.column.Column.{Column};
 ghost use Rattle.column_types.specs.declared.predicate.Pred.{Pred};
 ghost use Rattle.filter.specs.declared.fault.FilterFault.{FilterFault};
@@ -132,8 +133,11 @@ fn read(alloc: Global, schema: &Schema, text: &[u8]) -> Result<Meaning, ReadFaul
 /// the first token, or of what is no token, with which the grammar can't go on, or at the text's length where it
 /// ends too early; and `Long` at the 1,025th literal, or where parentheses of groups and NOTs before operands stand
 /// 65 deep. Then from the left, test by test, come `UnknownColumn` and `IllTyped`.
+///
+/// The predicate is typed for the schema, as `truth` wants it.
 pub fn parse_restriction(alloc: Global, text: &str, schema: &Schema) -> Result<Pred, FilterFault>
-    ensures { Answers schema.now text.now result }
+    ensures cause { Answers schema.now text.now result }
+    ensures typed { IfOk result (IsTyped schema.now) }
 {
     if text.len() > MAX_BYTES {
         return Err(FilterFault::Long);
