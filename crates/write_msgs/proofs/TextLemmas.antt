@@ -1,5 +1,5 @@
 -- A text is what its bytes spell.
-use Rattle.std.proofs.Common.{◌≡◌, true, false, ℕ, List, Some, Ok, Err, refl, sym, ap, ◌∙◌}
+use Rattle.std.proofs.Common.{◌≡◌, true, false, ℕ, List, Some, Ok, Err, refl}
 use Rattle.std.specs.Prelude.{Bool}
 use Rattle.std.specs.Str.{IsUtf8, is_utf8}
 use Rattle.std.proofs.lemmas.Str.{is_utf8-from_IsUtf8, IsUtf8-from_is_utf8}

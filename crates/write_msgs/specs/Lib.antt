@@ -5,3 +5,10 @@ pub mod Request
 pub mod Writing
 pub mod RequestBytes
 pub mod ResponseBytes
+pub mod Repeated
+pub mod Response
+pub mod RoundTrip
+pub mod Streams
+pub mod StreamsBytes
+pub mod CommitParts
+pub mod CommitPartsBytes

@@ -1,5 +1,5 @@
 -- What a message says of one of its fields: the Protocol Buffers encoding guide.
-use Rattle.std.specs.Prelude.{ℕ, ℤ, ◌%◌, ◌^◌, List, [], Result, Ok, Err, Option, Some, None, Bool, true, false, is_some, unwrap_or, if◌then◌else◌}
+use Rattle.std.specs.Prelude.{ℕ, ℤ, ◌%◌, ◌^◌, List, [], Result, Ok, Err, Option, Some, None, is_some, unwrap_or, if◌then◌else◌}
 use Rattle.std.specs.Int.{w32, w64, cast_signed}
 use Rattle.std.specs.Str.{is_utf8}
 use Rattle.proto_fields.specs.Record.{Record}

@@ -1,5 +1,5 @@
 -- An AppendRowsRequest and the messages within it.
-use Rattle.std.specs.Prelude.{ℕ, ℤ, List, Result, Ok, Err, Option}
+use Rattle.std.specs.Prelude.{ℕ, ℤ, List, Result, Ok, Option}
 use Rattle.proto_fields.specs.Record.{Record}
 use Rattle.proto_fields.specs.Selection.{merged_of, payloads_of}
 use Rattle.write_msgs.specs.declared.faults.MsgFault.{MsgFault}

@@ -10,22 +10,33 @@
 //! Why a message is refused is [`MsgFault`], which says the order in which faults count.
 #![tactic(auto)]
 
+mod commit_parts;
 mod faults;
+mod laws;
 mod nested;
 mod numbers;
 mod reading;
+mod repeated;
 mod request;
 mod request_parts;
 mod request_writing;
 mod response;
 mod response_parts;
+mod response_reading;
+mod stream_calls;
 mod writing;
 
+pub use commit_parts::{StorageError, Timestamp};
 pub use faults::MsgFault;
+pub use laws::{requests_read_back, responses_read_back};
 pub use request::AppendRowsRequest;
 pub use request_parts::{ProtoData, ProtoRows, ProtoSchema};
 pub use response::AppendRowsResponse;
 pub use response_parts::{AppendResult, RowError, RowErrors, Status};
+pub use stream_calls::{
+    FinalizeWriteStreamRequest, FinalizeWriteStreamResponse, FlushRowsRequest, FlushRowsResponse,
+    GetWriteStreamRequest,
+};
 
 #[cfg(test)]
 mod tests;

@@ -56,3 +56,36 @@ pub const ROW_CODE: u32 = 2;
 
 /// RowError: the text.
 pub const ROW_MESSAGE: u32 = 3;
+
+/// GetWriteStreamRequest, FinalizeWriteStreamRequest: the name of the write stream.
+pub const NAME: u32 = 1;
+
+/// GetWriteStreamRequest: how much of the write stream is asked for.
+pub const VIEW: u32 = 3;
+
+/// FinalizeWriteStreamResponse: the number of rows.
+pub const ROW_COUNT: u32 = 1;
+
+/// FlushRowsRequest: the name of the write stream.
+pub const FLUSHED_STREAM: u32 = 1;
+
+/// FlushRowsRequest: the offset of the last row to be flushed, an Int64Value.
+pub const FLUSH_OFFSET: u32 = 2;
+
+/// FlushRowsResponse: the offset of the last row that was flushed.
+pub const FLUSHED_OFFSET: u32 = 1;
+
+/// Timestamp: seconds since 1970-01-01T00:00:00Z.
+pub const SECONDS: u32 = 1;
+
+/// Timestamp: nanoseconds of the second.
+pub const NANOS: u32 = 2;
+
+/// StorageError: the code.
+pub const STORAGE_CODE: u32 = 1;
+
+/// StorageError: what the error is about.
+pub const ENTITY: u32 = 2;
+
+/// StorageError: the text.
+pub const ERROR_MESSAGE: u32 = 3;

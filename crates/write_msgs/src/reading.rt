@@ -1,11 +1,13 @@
-ghost use Rattle.std.specs.Prelude.{◌≡◌, ◌≤◌, ◌<◌, ◌^◌, length, sum_by, All, List, ℕ, Some};
+ghost use Rattle.std.specs.Prelude.{◌≡◌, ◌≤◌, ◌<◌, ◌^◌, length, sum_by, All, List, ℕ, Some, Ok};
+ghost use Rattle.proto_fields.specs.Message.{fields_of};
 ghost use Rattle.proto_fields.specs.Selection.{last_of, payloads_of};
-ghost use Rattle.proto_fields.specs.Spans.{IsWithin, records_in};
+ghost use Rattle.proto_fields.specs.Spans.{IsWithin, records_in, payload_size};
 ghost use Rattle.write_msgs.specs.Faults.{ReadsAs};
-ghost use Rattle.write_msgs.specs.Reading.{text_from, text_in, int64_in, int32_in, without};
+ghost use Rattle.write_msgs.specs.Reading.{text_from, text_in, int64_in, int32_in, without, nested};
 ghost use Rattle.write_msgs.specs.Request.{int64_value_of};
 
 use crate::faults::MsgFault;
+use crate::nested::{inner_message, present};
 use crate::numbers::VALUE;
 use outside::Text;
 use proto_fields::{Field, fields, has, last_bytes, last_varint, part};
@@ -70,4 +72,23 @@ pub(crate) fn int64_value(alloc: Global, bytes: &[u8]) -> Result<i64, MsgFault>
 {
     let found = fields(alloc, bytes)?;
     Ok(read_int64(found.as_slice(), VALUE))
+}
+
+/// The Int64Value in the field of this number, where there is one.
+pub(crate) fn read_wrapped(
+    alloc: Global,
+    bytes: &[u8],
+    found: &[Field],
+    number: u32,
+) -> Result<Option<i64>, MsgFault>
+    requires small { length bytes.now < 2 ^ 32 }
+    requires message { fields_of bytes.now ≡ Ok (records_in bytes.now found.now) }
+    requires within { All (IsWithin (length bytes.now)) found.now }
+    requires size { sum_by payload_size found.now ≤ length bytes.now }
+    ensures { ReadsAs result (nested int64_value_of number bytes.now (records_in bytes.now found.now)) }
+{
+    let Some(inner) = inner_message(alloc, bytes, found, number)? else {
+        return Ok(None);
+    };
+    present(int64_value(alloc, inner.bytes()), bytes, number)
 }

@@ -1,17 +1,21 @@
-ghost use Rattle.std.specs.Prelude.{◌≡◌, ◌++◌, map, IfOk, OnOk};
+ghost use Rattle.std.specs.Prelude.{◌≡◌, ◌<◌, ◌^◌, ◌++◌, length, map, IfOk, OnOk};
 ghost use Rattle.std.specs.Option.{option_map};
 ghost use Rattle.proto_fields.specs.Message.{message_of};
+ghost use Rattle.write_msgs.specs.Faults.{ReadsAs};
+ghost use Rattle.write_msgs.specs.Response.{append_rows_response_of};
 ghost use Rattle.write_msgs.specs.Writing.{message_field, repeated_field};
 ghost use Rattle.write_msgs.specs.ResponseBytes.{append_result_bytes, status_bytes, row_error_bytes, append_rows_response_bytes};
 
+use crate::faults::{MsgFault, both};
 use crate::numbers::{
     APPEND_RESULT, CODE, ERROR, INDEX, MESSAGE, RESPONSE_STREAM, RESULT_OFFSET, ROW_CODE,
     ROW_ERRORS, ROW_MESSAGE,
 };
 use crate::response_parts::{AppendResult, RowError, RowErrors, Status};
+use crate::response_reading::{read_outcome, read_rows_and_name};
 use crate::writing::{put_int, put_int64_value, put_text};
 use outside::{Blob, Memory, Text};
-use proto_fields::Out;
+use proto_fields::{Out, fields};
 use std::alloc::Global;
 
 /// The answer to an AppendRowsRequest.
@@ -91,6 +95,27 @@ fn put_row_errors(alloc: Global, out: &mut Out, errors: &[RowError]) -> Result<(
 }
 
 impl AppendRowsResponse {
+    /// Reads a response of fewer than 2^32 bytes.
+    ///
+    /// It is refused where it, or a message within it, is no message of Protocol Buffers, and where
+    /// one of its texts isn't UTF-8. A row error that is no message is reported at its own tag.
+    #[tactic(auto, unfolding(crate::specs::Response::append_rows_response_of))]
+    pub fn decode(alloc: Global, bytes: &[u8]) -> Result<AppendRowsResponse, MsgFault>
+        requires { length bytes.now < 2 ^ 32 }
+        ensures { ReadsAs result (append_rows_response_of bytes.now) }
+    {
+        let found = fields(alloc, bytes)?;
+        let outcome = read_outcome(alloc, bytes, found.as_slice());
+        let rows_and_name = read_rows_and_name(alloc, bytes, found.as_slice());
+        let ((append_result, error), (row_errors, write_stream)) = both(outcome, rows_and_name)?;
+        Ok(AppendRowsResponse {
+            append_result,
+            error,
+            row_errors,
+            write_stream,
+        })
+    }
+
     /// The message as bytes.
     #[tactic(auto, using(crate::proofs::WritingLemmas::message_joins), unfolding(crate::specs::ResponseBytes::append_rows_response_bytes))]
     pub fn encode(&self, alloc: Global) -> Result<Blob, Memory>

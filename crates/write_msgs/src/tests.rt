@@ -116,5 +116,56 @@ fn writes_replies(rt: HostRuntime) -> Result<(), Fail> {
         0x72, 0x6f, 0x77, 0x73, 0x22, 0x06, 0x10, 0x01, 0x1a, 0x02, 0x6e, 0x6f, 0x2a, 0x01, 0x77,
     ];
     assert_eq!(rt; refused.encode(rt.alloc())?.bytes(), bytes.as_slice());
+
+    let read = AppendRowsResponse::decode(rt.alloc(), &bytes)?;
+    assert!(rt; read.append_result.is_none());
+    assert_eq!(rt; read.write_stream.text(), "w");
+    let status = read.error.ok_or("error")?;
+    assert_eq!(rt; status.code, -1);
+    assert_eq!(rt; status.message.text(), "rows");
+    assert_eq!(rt; read.row_errors.errors()[0].index, 0);
+    assert_eq!(rt; read.row_errors.errors()[0].code, 1);
+    assert_eq!(rt;
+        AppendRowsResponse::decode(rt.alloc(), &[0x22, 0, 0x22, 1, 0x0b, 0x22, 1, 0x0b]).err(),
+        Some(MsgFault::BadProto { at: 2 }),
+        "the tag of the second row error"
+    );
+    Ok(())
+}
+
+#[test]
+fn reads_and_writes_messages_of_streams(rt: HostRuntime) -> Result<(), Fail> {
+    let bytes: &[u8] = &[0x0a, 1, 0x77, 0x12, 2, 0x08, 3];
+    let flush = FlushRowsRequest::decode(rt.alloc(), bytes)?;
+    assert_eq!(rt; flush.write_stream.text(), "w");
+    assert_eq!(rt; flush.offset, Some(3));
+    assert_eq!(rt; flush.encode(rt.alloc())?.bytes(), bytes);
+
+    let bytes: &[u8] = &[0x08, 3];
+    let flushed = FlushRowsResponse::decode(rt.alloc(), bytes)?;
+    assert_eq!(rt; flushed.offset, 3);
+    assert_eq!(rt; flushed.encode(rt.alloc())?.bytes(), bytes);
+    let finalised = FinalizeWriteStreamResponse::decode(rt.alloc(), bytes)?;
+    assert_eq!(rt; finalised.row_count, 3);
+    assert_eq!(rt; finalised.encode(rt.alloc())?.bytes(), bytes);
+
+    let bytes: &[u8] = &[0x0a, 1, 0x77, 0x18, 2];
+    let get = GetWriteStreamRequest::decode(rt.alloc(), bytes)?;
+    assert_eq!(rt; get.view, 2);
+    assert_eq!(rt; get.encode(rt.alloc())?.bytes(), bytes);
+    let finalise = FinalizeWriteStreamRequest::decode(rt.alloc(), bytes)?;
+    assert_eq!(rt; finalise.encode(rt.alloc())?.bytes(), &bytes[..3]);
+
+    let bytes: &[u8] = &[0x08, 5, 0x10, 7];
+    let moment = Timestamp::decode(rt.alloc(), bytes)?;
+    assert_eq!(rt; (moment.seconds, moment.nanos), (5, 7));
+    assert_eq!(rt; moment.encode(rt.alloc())?.bytes(), bytes);
+
+    let bytes: &[u8] = &[0x08, 2, 0x12, 1, 0x65, 0x1a, 1, 0x6d];
+    let error = StorageError::decode(rt.alloc(), bytes)?;
+    assert_eq!(rt; error.code, 2);
+    assert_eq!(rt; error.entity.text(), "e");
+    assert_eq!(rt; error.error_message.text(), "m");
+    assert_eq!(rt; error.encode(rt.alloc())?.bytes(), bytes);
     Ok(())
 }

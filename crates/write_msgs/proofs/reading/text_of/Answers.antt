@@ -1,5 +1,5 @@
 -- The text is its bytes, where they are UTF-8.
-use Rattle.std.proofs.Common.{◌≡◌, Ok, sym, ap, ◌∙◌}
+use Rattle.std.proofs.Common.{Ok, sym, ap, ◌∙◌}
 use Rattle.write_msgs.proofs.TextLemmas.{text_from-utf8, text_from-other}
 use Rattle.write_msgs.proofs.reading.text_of.Goals as goal
 

@@ -1,5 +1,5 @@
 -- All rows are written.
-use Rattle.std.proofs.Common.{◌≡◌, ◌∙◌, arith}
+use Rattle.std.proofs.Common.{◌∙◌, arith}
 use Rattle.write_msgs.specs.declared.numbers.TheConstants.{SERIALIZED_ROWS}
 use Rattle.write_msgs.specs.RequestBytes.{proto_rows_bytes}
 use Rattle.write_msgs.proofs.WritingLemmas.{items_done}

@@ -1,5 +1,5 @@
 -- All row errors are written.
-use Rattle.std.proofs.Common.{◌≡◌, ◌≤◌, arith}
+use Rattle.std.proofs.Common.{arith}
 use Rattle.write_msgs.specs.declared.numbers.TheConstants.{ROW_ERRORS}
 use Rattle.write_msgs.proofs.WritingLemmas.{row_errors_done}
 use Rattle.write_msgs.proofs.response.put_row_errors.Goals as goal
