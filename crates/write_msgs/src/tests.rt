@@ -123,8 +123,9 @@ fn writes_replies(rt: HostRuntime) -> Result<(), Fail> {
     let status = read.error.ok_or("error")?;
     assert_eq!(rt; status.code, -1);
     assert_eq!(rt; status.message.text(), "rows");
-    assert_eq!(rt; read.row_errors.errors()[0].index, 0);
-    assert_eq!(rt; read.row_errors.errors()[0].code, 1);
+    let error = read.row_errors.errors().first().ok_or("a row error")?;
+    assert_eq!(rt; error.index, 0);
+    assert_eq!(rt; error.code, 1);
     assert_eq!(rt;
         AppendRowsResponse::decode(rt.alloc(), &[0x22, 0, 0x22, 1, 0x0b, 0x22, 1, 0x0b]).err(),
         Some(MsgFault::BadProto { at: 2 }),
