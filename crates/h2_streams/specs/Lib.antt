@@ -1,0 +1,4 @@
+pub mod Book
+pub mod Calls
+pub mod Kept
+pub mod Shifts
