@@ -34,3 +34,18 @@ items_done number n items blobs out written same all =
     let g : List ℕ → List ℕ = λ item. record_bytes (bytes_field number item) in
     let whole : length items ≤ n = subst (λ (xs : List (List ℕ)). length xs ≤ n) same all in
     written ∙ ap (flat_map g) (take_all n items whole) ∙ sym (items_written number items)
+
+-- a repeated field at the end of a loop
+pub all_written : {X : Type 0} (write : X → List ℕ) (number n : ℕ) (items : List X) (before out : List ℕ)
+    → out ≡ before ++ flat_map (λ item. record_bytes (bytes_field number (write item))) (take n items) → length items ≤ n → out ≡ before ++ message_of (repeated_field number (map write items))
+all_written {X} write number n items before out written all =
+    let g : X → List ℕ = λ item. record_bytes (bytes_field number (write item)) in
+    let whole : message_of (repeated_field number (map write items)) ≡ flat_map g items =
+    items_written number (map write items) ∙ flat_map-map (λ item. record_bytes (bytes_field number item)) write items in
+    written ∙ ap (λ some. before ++ flat_map g some) (take_all n items all) ∙ ap (λ bytes. before ++ bytes) (sym whole)
+
+pub texts_written : (number n : ℕ) (items : List (List ℕ)) (before out : List ℕ) → out ≡ before ++ flat_map (λ item. record_bytes (bytes_field number item)) (take n items) → length items ≤ n
+    → out ≡ before ++ message_of (repeated_field number items)
+texts_written number n items before out written all =
+    let g : List ℕ → List ℕ = λ item. record_bytes (bytes_field number item) in
+    written ∙ ap (λ some. before ++ flat_map g some) (take_all n items all) ∙ ap (λ bytes. before ++ bytes) (sym (items_written number items))

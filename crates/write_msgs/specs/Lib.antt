@@ -12,3 +12,5 @@ pub mod Streams
 pub mod StreamsBytes
 pub mod CommitParts
 pub mod CommitPartsBytes
+pub mod Commits
+pub mod CommitsBytes

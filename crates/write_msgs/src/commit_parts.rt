@@ -10,6 +10,7 @@ use crate::writing::{put_int, put_text};
 use outside::{Blob, Memory, Text};
 use proto_fields::{Out, fields};
 use std::alloc::Global;
+use std::marker::Model;
 
 /// A moment: `google.protobuf.Timestamp`.
 #[derive(Drop)]
@@ -87,5 +88,80 @@ impl StorageError {
         put_text(alloc, &mut out, ENTITY, &self.entity)?;
         put_text(alloc, &mut out, ERROR_MESSAGE, &self.error_message)?;
         Ok(out.finish())
+    }
+}
+
+/// A list of texts that a value owns. Contracts see the list.
+#[derive(Drop)]
+pub struct Texts {
+    texts: Vec<Text>,
+}
+
+impl Model for Texts {
+    ghost use Rattle.std.specs.Prelude.{List, ℕ};
+
+    ghost Value = { List (List ℕ) };
+
+    ghost view = { λ r. r.texts.items };
+}
+
+impl Texts {
+    /// The list of a vector, without a copy.
+    pub fn from_vec(texts: Vec<Text>) -> Texts
+        ensures { result ≡ texts.items }
+    {
+        Texts { texts }
+    }
+
+    /// The texts.
+    pub fn texts(&self) -> &[Text]
+        ensures { result.now ≡ self.now }
+    {
+        self.texts.as_slice()
+    }
+
+    /// The texts as a vector, without a copy.
+    pub fn into_vec(self) -> Vec<Text>
+        ensures { result.items ≡ self }
+    {
+        self.texts
+    }
+}
+
+/// A list of storage errors that a value owns. Contracts see the list.
+#[derive(Drop)]
+pub struct StorageErrors {
+    errors: Vec<StorageError>,
+}
+
+impl Model for StorageErrors {
+    ghost use Rattle.std.specs.Prelude.{List};
+    ghost use Rattle.write_msgs.specs.declared.commit_parts.StorageError.{StorageError};
+
+    ghost Value = { List StorageError };
+
+    ghost view = { λ r. r.errors.items };
+}
+
+impl StorageErrors {
+    /// The list of a vector, without a copy.
+    pub fn from_vec(errors: Vec<StorageError>) -> StorageErrors
+        ensures { result ≡ errors.items }
+    {
+        StorageErrors { errors }
+    }
+
+    /// The storage errors.
+    pub fn errors(&self) -> &[StorageError]
+        ensures { result.now ≡ self.now }
+    {
+        self.errors.as_slice()
+    }
+
+    /// The storage errors as a vector, without a copy.
+    pub fn into_vec(self) -> Vec<StorageError>
+        ensures { result.items ≡ self }
+    {
+        self.errors
     }
 }

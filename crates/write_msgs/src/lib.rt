@@ -11,6 +11,7 @@
 #![tactic(auto)]
 
 mod commit_parts;
+mod commits;
 mod faults;
 mod laws;
 mod nested;
@@ -26,7 +27,8 @@ mod response_reading;
 mod stream_calls;
 mod writing;
 
-pub use commit_parts::{StorageError, Timestamp};
+pub use commit_parts::{StorageError, StorageErrors, Texts, Timestamp};
+pub use commits::{BatchCommitWriteStreamsRequest, BatchCommitWriteStreamsResponse};
 pub use faults::MsgFault;
 pub use laws::{requests_read_back, responses_read_back};
 pub use request::AppendRowsRequest;

@@ -89,3 +89,15 @@ pub const ENTITY: u32 = 2;
 
 /// StorageError: the text.
 pub const ERROR_MESSAGE: u32 = 3;
+
+/// BatchCommitWriteStreamsRequest: the name of the table.
+pub const PARENT: u32 = 1;
+
+/// BatchCommitWriteStreamsRequest: the names of the write streams.
+pub const WRITE_STREAMS: u32 = 2;
+
+/// BatchCommitWriteStreamsResponse: the moment of the commit, a Timestamp.
+pub const COMMIT_TIME: u32 = 1;
+
+/// BatchCommitWriteStreamsResponse: why there was no commit, each a StorageError.
+pub const STREAM_ERRORS: u32 = 2;

@@ -14,7 +14,7 @@ use proto_fields::{Field, fields, has, last_bytes, last_varint, part};
 use std::alloc::Global;
 
 /// These bytes as the text in the field of this number.
-fn text_of(alloc: Global, bytes: &[u8], number: u32) -> Result<Text, MsgFault>
+pub(crate) fn text_of(alloc: Global, bytes: &[u8], number: u32) -> Result<Text, MsgFault>
     ensures { ReadsAs result (text_from number (Some bytes.now)) }
 {
     match str::from_utf8(bytes) {

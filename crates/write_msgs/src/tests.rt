@@ -170,3 +170,17 @@ fn reads_and_writes_messages_of_streams(rt: HostRuntime) -> Result<(), Fail> {
     assert_eq!(rt; error.encode(rt.alloc())?.bytes(), bytes);
     Ok(())
 }
+
+#[test]
+fn reads_and_writes_messages_of_a_commit(rt: HostRuntime) -> Result<(), Fail> {
+    let bytes: &[u8] = &[0x0a, 1, 0x70, 0x12, 1, 0x61, 0x12, 1, 0x62];
+    let commit = BatchCommitWriteStreamsRequest::decode(rt.alloc(), bytes)?;
+    assert_eq!(rt; commit.parent.text(), "p");
+    assert_eq!(rt; commit.encode(rt.alloc())?.bytes(), bytes);
+
+    let bytes: &[u8] = &[0x0a, 2, 0x08, 5, 0x12, 5, 0x08, 3, 0x12, 1, 0x65];
+    let committed = BatchCommitWriteStreamsResponse::decode(rt.alloc(), bytes)?;
+    assert!(rt; committed.commit_time.is_some());
+    assert_eq!(rt; committed.encode(rt.alloc())?.bytes(), bytes);
+    Ok(())
+}
