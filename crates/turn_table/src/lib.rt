@@ -5,6 +5,8 @@
 //! legal for a machine.
 #![tactic(auto)]
 
+mod laws;
 mod machine;
 
+pub use laws::{fronts_are_legal, steps_stay_legal};
 pub use machine::{LATEST_READING, Machine};
