@@ -1,5 +1,8 @@
 //! A predicate in front notation, as `(and (= id 1) (not (null tag)))`.
 
+ghost use Rattle.std.specs.Prelude.{◌≡◌};
+ghost use Rattle.restriction_answers.specs.Signs.{sign_of};
+
 use column_types::{Cell, Op, Pred, Schema};
 use std::io;
 
@@ -10,7 +13,9 @@ enum Piece<'a> {
     Text(&'static str),
 }
 
-fn sign(op: Op) -> &'static str {
+fn sign(op: Op) -> &'static str
+    ensures { result.now ≡ sign_of op }
+{
     match op {
         Op::Eq => "=",
         Op::Ne => "!=",
