@@ -1,209 +1,31 @@
 //! A straightforward peer of `bqstored body` in Rust, with the standard library alone, to time the
 //! program against. It reads the same bodies, keeps the rows in the same way and writes the same
 //! replies.
-use std::io::{self, BufReader, Read, Write};
+mod wire;
 
-const MESSAGE_LIMIT: usize = 10_485_760;
-const MAX_WEIGHT: usize = 268_435_456;
+use wire::{fields, joined, offset, Table, Value};
 
-enum Value<'a> {
-    Varint(u64),
-    Len(&'a [u8]),
-    Fixed,
-}
-
-fn varint(bytes: &[u8], at: &mut usize) -> Option<u64> {
-    let mut number = 0u64;
-    for turn in 0..10 {
-        let byte = *bytes.get(*at)?;
-        *at += 1;
-        number |= u64::from(byte & 127).checked_shl(7 * turn).unwrap_or(0);
-        if byte < 128 {
-            return Some(number);
-        }
-    }
-    None
-}
-
-fn fields(bytes: &[u8]) -> Option<Vec<(u64, Value<'_>)>> {
-    let mut found = Vec::new();
-    let mut at = 0;
-    while at < bytes.len() {
-        let tag = varint(bytes, &mut at)?;
-        let number = tag / 8;
-        if number == 0 || number > 536_870_911 {
-            return None;
-        }
-        let value = match tag % 8 {
-            0 => Value::Varint(varint(bytes, &mut at)?),
-            kind @ (1 | 5) => {
-                at += if kind == 1 { 8 } else { 4 };
-                if at > bytes.len() {
-                    return None;
-                }
-                Value::Fixed
-            }
-            2 => {
-                let len = varint(bytes, &mut at)?;
-                if len > (bytes.len() - at) as u64 {
-                    return None;
-                }
-                let start = at;
-                at += len as usize;
-                Value::Len(&bytes[start..at])
-            }
-            _ => return None,
-        };
-        found.push((number, value));
-    }
-    Some(found)
-}
-
-fn joined(found: &[(u64, Value<'_>)], number: u64) -> Option<Vec<u8>> {
-    let mut whole: Option<Vec<u8>> = None;
-    for (n, value) in found {
-        if let (true, Value::Len(bytes)) = (*n == number, value) {
-            whole.get_or_insert_with(Vec::new).extend_from_slice(bytes);
-        }
-    }
-    whole
-}
-
-struct Request {
-    offset: Option<i64>,
-    rows: Vec<Vec<u8>>,
-}
-
-fn request(message: &[u8]) -> Option<Request> {
+/// The offset and the rows of a message.
+fn request(message: &[u8]) -> Option<(Option<i64>, Vec<Vec<u8>>)> {
     let found = fields(message)?;
-    for (number, value) in &found {
-        if let (5, Value::Len(_)) = (number, value) {
-            return None;
-        }
-    }
-    let name = found.iter().rev().find_map(|(n, v)| match v {
-        Value::Len(bytes) if *n == 1 => Some(*bytes),
-        _ => None,
-    });
-    if std::str::from_utf8(name.unwrap_or(&[])).is_err() {
-        return None;
-    }
-    let offset = match joined(&found, 2) {
-        None => None,
-        Some(bytes) => {
-            let inner = fields(&bytes)?;
-            let number = inner.iter().rev().find_map(|(n, v)| match v {
-                Value::Varint(x) if *n == 1 => Some(*x),
-                _ => None,
-            });
-            Some(number.unwrap_or(0) as i64)
-        }
-    };
+    let offset = offset(&found)?;
     let data = joined(&found, 4).unwrap_or_default();
-    let rows = joined(&fields(&data)?, 2).unwrap_or_default();
-    let mut kept = Vec::new();
-    for (number, value) in fields(&rows)? {
+    let bytes = joined(&fields(&data)?, 2).unwrap_or_default();
+    let mut rows = Vec::new();
+    for (number, value) in fields(&bytes)? {
         if let (1, Value::Len(bytes)) = (number, value) {
-            kept.push(bytes.to_vec());
+            rows.push(bytes.to_vec());
         }
     }
-    Some(Request { offset, rows: kept })
-}
-
-fn put_varint(out: &mut Vec<u8>, mut number: u64) {
-    while number >= 128 {
-        out.push((number % 128 + 128) as u8);
-        number /= 128;
-    }
-    out.push(number as u8);
-}
-
-fn payload(field: u64, bytes: &[u8]) -> Vec<u8> {
-    let mut out = Vec::new();
-    put_varint(&mut out, field * 8 + 2);
-    put_varint(&mut out, bytes.len() as u64);
-    out.extend_from_slice(bytes);
-    out
-}
-
-fn refused(code: u64, text: &str) -> Vec<u8> {
-    let mut status = vec![8];
-    put_varint(&mut status, code);
-    status.extend_from_slice(&payload(2, text.as_bytes()));
-    payload(2, &status)
-}
-
-#[derive(Default)]
-struct Table {
-    entries: Vec<(u64, Vec<Vec<u8>>)>,
-    end: u64,
-    weight: usize,
-}
-
-fn answer(table: &mut Table, request: Request) -> Vec<u8> {
-    if request.rows.is_empty() {
-        return refused(3, "no rows");
-    }
-    if let Some(offset) = request.offset {
-        if offset < 0 {
-            return refused(3, "negative offset");
-        }
-        if (offset as u64) < table.end {
-            return refused(6, "offset already written");
-        }
-        if offset as u64 > table.end {
-            return refused(11, "offset past the end");
-        }
-    }
-    let weight: usize = request.rows.iter().map(|row| 32 + row.len()).sum();
-    if table.weight + weight > MAX_WEIGHT {
-        return refused(8, "table is full");
-    }
-    let first = table.end;
-    table.end += request.rows.len() as u64;
-    table.weight += weight;
-    table.entries.push((first, request.rows));
-    let mut value = Vec::new();
-    if first != 0 {
-        value.push(8);
-        put_varint(&mut value, first);
-    }
-    payload(1, &payload(1, &value))
-}
-
-fn run() -> io::Result<i32> {
-    let mut input = BufReader::with_capacity(65_536, io::stdin().lock());
-    let mut out = io::stdout().lock();
-    let mut table = Table::default();
-    loop {
-        let mut prefix = [0u8; 5];
-        let mut have = 0;
-        while have < 5 {
-            match input.read(&mut prefix[have..])? {
-                0 => return Ok(if have == 0 { 0 } else { 6 }),
-                n => have += n,
-            }
-        }
-        let len = u32::from_be_bytes([prefix[1], prefix[2], prefix[3], prefix[4]]) as usize;
-        if prefix[0] != 0 || len > MESSAGE_LIMIT {
-            return Ok(5);
-        }
-        let mut message = vec![0; len];
-        if input.read_exact(&mut message).is_err() {
-            return Ok(6);
-        }
-        let Some(request) = request(&message) else {
-            return Ok(5);
-        };
-        let reply = answer(&mut table, request);
-        let mut framed = vec![0];
-        framed.extend_from_slice(&(reply.len() as u32).to_be_bytes());
-        framed.extend_from_slice(&reply);
-        out.write_all(&framed)?;
-        out.flush()?;
-    }
+    Some((offset, rows))
 }
 
 fn main() {
-    std::process::exit(run().unwrap_or(3));
+    let mut table = Table::new();
+    let ended = wire::run(|message| {
+        let (offset, rows) = request(message)?;
+        let weight = rows.iter().map(|row| 32 + row.len()).sum();
+        Some(table.append(offset, rows, weight))
+    });
+    std::process::exit(ended.unwrap_or(3));
 }
