@@ -6,3 +6,4 @@ pub mod SelectionLemmas
 pub mod RoundTrip
 pub mod PlaceLemmas
 pub mod MessageLaws
+pub mod SizeLemmas

@@ -109,7 +109,7 @@ pub record IsPlaced (message : List ℕ) (payload : Raw) (rest : List ℕ) (at :
   pub within : IfSome (span_in (value_at (payload_of payload) (length message - length rest))) (λ s. s.start + s.len ≤ length message)
   pub size : size_in (value_at (payload_of payload) (length message - length rest)) ≡ raw_size payload
 
-length-lies : (message : List ℕ) (payload : Payload) (rest : List ℕ) (at : ℕ) (h : Lies message payload rest at) → length message ≡ length h.before + (length (content payload) + length rest)
+pub length-lies : (message : List ℕ) (payload : Payload) (rest : List ℕ) (at : ℕ) (h : Lies message payload rest at) → length message ≡ length h.before + (length (content payload) + length rest)
 length-lies message payload rest at h = ap length h.whole ∙ length-append h.before (content payload ++ rest) ∙ ap (λ (n : ℕ). length h.before + n) (length-append (content payload) rest)
 
 rest-lies : (message : List ℕ) (payload : Payload) (rest : List ℕ) (at : ℕ) → Lies message payload rest at → rest ≡ drop (length message - length rest) message

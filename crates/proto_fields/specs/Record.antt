@@ -76,3 +76,7 @@ wire_number (Fixed32 n) = 5
 
 abbrev pub record_bytes : Record → List ℕ
 record_bytes r = varint_of (r.number * 8 + wire_number r.payload) ++ payload_bytes r.payload
+
+-- what stands in front of the bytes of a payload of wire type 2: the tag, and their number
+abbrev pub head_bytes : ℕ → ℕ → List ℕ
+head_bytes number len = varint_of (number * 8 + 2) ++ varint_of len

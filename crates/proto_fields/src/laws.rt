@@ -1,11 +1,12 @@
 //! What the definitions of a message come to. These functions do nothing: each has a law about
 //! messages as its contract.
 
-ghost use Rattle.std.specs.Prelude.{◌≡◌, ◌≤◌, ◌+◌, ◌-◌, ℕ, List, [], ◌∷◌, length, Some, None, Ok, Err};
+ghost use Rattle.std.specs.Prelude.{◌≡◌, ◌≤◌, ◌+◌, ◌-◌, ℕ, List, [], ◌∷◌, length, sum_by, Some, None, Ok, Err};
 ghost use Rattle.std.specs.List.{AllByRecursion};
 ghost use Rattle.proto_fields.specs.Varint.{varint_at, varint_of};
 ghost use Rattle.proto_fields.specs.Record.{Record, record_at};
 ghost use Rattle.proto_fields.specs.Message.{fields_of, message_of, HasSpelling};
+ghost use Rattle.proto_fields.specs.Selection.{payloads_of};
 
 /// What [`Out`](super::Out) writes, [`fields`](super::fields) reads back: records in their shortest
 /// spelling are the fields of the message that they make.
@@ -25,4 +26,10 @@ pub fn one_record_after_another()
 /// No spelling of a number is shorter than the varint that is written.
 pub fn varints_are_shortest()
     ensures { (bytes rest : List ℕ) (n : ℕ) → varint_at bytes ≡ Some (n, rest) → length (varint_of n) + length rest ≤ length bytes }
+{}
+
+/// The payloads of one field, with a byte more for the tag of each, are together no longer than their
+/// message. So messages nest less deep than the outermost has bytes.
+pub fn payloads_are_shorter()
+    ensures { (bytes : List ℕ) (records : List Record) (number : ℕ) → fields_of bytes ≡ Ok records → sum_by (λ p. length p + 1) (payloads_of number records) ≤ length bytes }
 {}

@@ -1,4 +1,4 @@
-ghost use Rattle.std.specs.Prelude.{◌≡◌, ◌+◌, ◌≤◌, ◌++◌, vec_len, vec_capacity};
+ghost use Rattle.std.specs.Prelude.{◌≡◌, ◌+◌, ◌≤◌, ◌++◌, length, vec_len, vec_capacity};
 ghost use Rattle.proto_fields.specs.Chain.{Gives};
 ghost use Rattle.proto_fields.specs.Varint.{low_number_at, varint_at, number_of, varint_of};
 
@@ -63,4 +63,26 @@ fn put_number(bytes: &mut Vec<u8>, most: usize, n: u64)
     }
     bytes.push((n % 128) as u8 + 128).unwrap();
     put_number(bytes, most - 1, n / 128);
+}
+
+/// How many bytes the shortest varint of a number has: one to ten.
+pub fn varint_len(n: u64) -> usize
+    ensures len { result ≡ length (varint_of n) }
+    ensures most { result ≤ MOST_BYTES }
+{
+    number_len(MOST_BYTES, n)
+}
+
+// How many bytes a number has that has this many at most.
+fn number_len(most: usize, n: u64) -> usize
+    ensures len { result ≡ length (number_of most n) }
+    ensures most { result ≤ most }
+{
+    if most == 0 {
+        return 0;
+    }
+    if n < 128 {
+        return 1;
+    }
+    1 + number_len(most - 1, n / 128)
 }

@@ -75,7 +75,7 @@ fn least(a: MsgFault, b: MsgFault) -> MsgFault
 }
 
 /// Both of two parts of a message, or the fault that counts.
-pub(crate) fn both<A: Drop, B: Drop>(
+pub fn both<A: Drop, B: Drop>(
     a: Result<A, MsgFault>,
     b: Result<B, MsgFault>,
 ) -> Result<(A, B), MsgFault>

@@ -8,6 +8,11 @@
 //! written.
 //!
 //! Why a message is refused is [`MsgFault`], which says the order in which faults count.
+//!
+//! The crates of other messages read theirs with [`read_text`], [`read_int32`], [`inner_message`] and
+//! [`present`] for a message within the message, [`with_item`] and [`in_nth_field`] for a repeated
+//! one, and [`both`], which tells the fault that counts; they write them with [`put_text`] and
+//! [`put_int`].
 #![tactic(auto)]
 
 mod commit_parts;
@@ -29,8 +34,11 @@ mod writing;
 
 pub use commit_parts::{StorageError, StorageErrors, Texts, Timestamp};
 pub use commits::{BatchCommitWriteStreamsRequest, BatchCommitWriteStreamsResponse};
-pub use faults::MsgFault;
+pub use faults::{MsgFault, both};
 pub use laws::{requests_read_back, responses_read_back};
+pub use nested::{Inner, inner_message, present};
+pub use reading::{read_int32, read_text};
+pub use repeated::{in_nth_field, located, occurrence, with_item};
 pub use request::AppendRowsRequest;
 pub use request_parts::{ProtoData, ProtoRows, ProtoSchema};
 pub use response::AppendRowsResponse;
@@ -39,6 +47,7 @@ pub use stream_calls::{
     FinalizeWriteStreamRequest, FinalizeWriteStreamResponse, FlushRowsRequest, FlushRowsResponse,
     GetWriteStreamRequest,
 };
+pub use writing::{put_int, put_text};
 
 #[cfg(test)]
 mod tests;

@@ -14,7 +14,7 @@ use std::alloc::Global;
 
 /// The bytes of a message within a message, all occurrences of its field joined.
 #[derive(Drop)]
-pub(crate) enum Inner<'a> {
+pub enum Inner<'a> {
     /// The field occurs once, so that no byte is copied.
     InPlace(&'a [u8]),
     /// The field occurs several times.
@@ -22,7 +22,8 @@ pub(crate) enum Inner<'a> {
 }
 
 impl Inner<'_> {
-    pub(crate) fn bytes(&self) -> &[u8]
+    /// The bytes.
+    pub fn bytes(&self) -> &[u8]
         ensures { result.now ≡ bytes_of self.now }
     {
         match self {
@@ -33,7 +34,7 @@ impl Inner<'_> {
 }
 
 /// The message in the field of this number, where there is one.
-pub(crate) fn inner_message<'a>(
+pub fn inner_message<'a>(
     alloc: Global,
     bytes: &'a [u8],
     fields: &[Field],
@@ -56,7 +57,7 @@ pub(crate) fn inner_message<'a>(
 }
 
 /// What was read in the field of this number, where it is there.
-pub(crate) fn present<T: Drop>(
+pub fn present<T: Drop>(
     read: Result<T, MsgFault>,
     bytes: &[u8],
     number: u32,

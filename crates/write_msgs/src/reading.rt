@@ -24,7 +24,7 @@ pub(crate) fn text_of(alloc: Global, bytes: &[u8], number: u32) -> Result<Text, 
 }
 
 /// The text in the field of this number.
-pub(crate) fn read_text(
+pub fn read_text(
     alloc: Global,
     bytes: &[u8],
     found: &[Field],
@@ -47,7 +47,7 @@ pub(crate) fn read_int64(found: &[Field], number: u32) -> i64
 }
 
 /// The int32 in the field of this number.
-pub(crate) fn read_int32(found: &[Field], number: u32) -> i32
+pub fn read_int32(found: &[Field], number: u32) -> i32
     ensures { (bytes : List ℕ) → result ≡ int32_in number (records_in bytes found.now) }
 {
     let low = last_varint(found, number).unwrap_or(0) % (1 << 32);

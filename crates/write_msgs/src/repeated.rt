@@ -12,7 +12,7 @@ use outside::Span;
 use proto_fields::{nth_tag, part};
 
 /// What was read of the nth occurrence of a field, with its number in the place of a place.
-fn located<T: Drop>(read: Result<T, MsgFault>, n: usize) -> Result<T, MsgFault>
+pub fn located<T: Drop>(read: Result<T, MsgFault>, n: usize) -> Result<T, MsgFault>
     ensures { result ≡ located n read }
 {
     match read {
@@ -22,7 +22,7 @@ fn located<T: Drop>(read: Result<T, MsgFault>, n: usize) -> Result<T, MsgFault>
 }
 
 /// The items so far with the nth, or the fault that counts.
-pub(crate) fn with_item<T: Drop>(
+pub fn with_item<T: Drop>(
     so_far: Result<Vec<T>, MsgFault>,
     read: Result<T, MsgFault>,
     n: usize,
@@ -39,7 +39,7 @@ pub(crate) fn with_item<T: Drop>(
 }
 
 /// A fault of the items in the field of this number.
-pub(crate) fn in_nth_field(fault: MsgFault, bytes: &[u8], number: u32) -> MsgFault
+pub fn in_nth_field(fault: MsgFault, bytes: &[u8], number: u32) -> MsgFault
     requires small { length bytes.now < 2 ^ 32 }
     requires message { IsOk (fields_of bytes.now) }
     ensures { result ≡ at_nth number bytes.now fault }
@@ -53,7 +53,7 @@ pub(crate) fn in_nth_field(fault: MsgFault, bytes: &[u8], number: u32) -> MsgFau
 }
 
 /// The bytes of one occurrence.
-pub(crate) fn occurrence(bytes: &[u8], span: Span) -> &[u8]
+pub fn occurrence(bytes: &[u8], span: Span) -> &[u8]
     requires { span.start + span.len ≤ length bytes.now }
     ensures bytes { result.now ≡ part bytes.now span }
     ensures size { length result.now ≤ length bytes.now }

@@ -10,7 +10,7 @@ use proto_fields::Out;
 use std::alloc::Global;
 
 /// Writes a text, unless it is empty.
-pub(crate) fn put_text(alloc: Global, out: &mut Out, number: u32, text: &Text) -> Result<(), Memory>
+pub fn put_text(alloc: Global, out: &mut Out, number: u32, text: &Text) -> Result<(), Memory>
     requires low { 1 ≤ number }
     requires high { number ≤ 536870911 }
     ensures { OnOk result (out.new ≡ out.old ++ message_of (text_field number text.now)) }
@@ -34,7 +34,7 @@ fn put_varint(alloc: Global, out: &mut Out, number: u32, value: u64) -> Result<(
 }
 
 /// Writes an int64, or an int32 as one, unless it is 0.
-pub(crate) fn put_int(alloc: Global, out: &mut Out, number: u32, value: i64) -> Result<(), Memory>
+pub fn put_int(alloc: Global, out: &mut Out, number: u32, value: i64) -> Result<(), Memory>
     requires low { 1 ≤ number }
     requires high { number ≤ 536870911 }
     ensures { OnOk result (out.new ≡ out.old ++ message_of (int_field number value)) }
