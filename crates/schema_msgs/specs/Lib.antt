@@ -1,0 +1,11 @@
+pub mod Fields
+pub mod Outline
+pub mod OutlineCode
+pub mod Schema
+pub mod SchemaBytes
+pub mod Walk
+pub mod Lengths
+pub mod Stream
+pub mod StreamBytes
+pub mod RoundTrip
+pub mod Levels
