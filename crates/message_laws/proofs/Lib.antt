@@ -1,0 +1,3 @@
+pub mod StreamsBack
+pub mod CommitPartsBack
+pub mod CommitsBack
