@@ -23,8 +23,10 @@ pub record ResetIds : Type 0 where
   pub ids : List ℕ
   pub has_room : Bool
 
--- No live stream has an id above the last one begun, at most 100 live, and where one does a reset can be remembered.
+-- No live stream has an id above the last one begun, nor 0, at most 100 live, and where one does a reset can be
+-- remembered.
 pub record AreStreams (live : List (ℕ × Stream)) (last : ℕ) (has_room : Bool) : Type 0 where
   pub none_above : (id : ℕ) → last < id → lookup (nat_eq id) live ≡ None
+  pub none_zero : lookup (nat_eq 0) live ≡ None
   pub few : length live ≤ 100
   pub room : (id : ℕ) → IsSome (lookup (nat_eq id) live) → IsTrue has_room

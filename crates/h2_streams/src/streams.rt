@@ -1,6 +1,6 @@
 //! The streams of a connection.
 
-ghost use Rattle.std.specs.Prelude.{◌≡◌, ◌<ℤ◌, ◌≤ℤ◌, ◌+ℤ◌, ◌-ℤ◌, pos, true, false, None, IsTrue, IsSome, IfSome, option_copied, map, find as find_first};
+ghost use Rattle.std.specs.Prelude.{◌≡◌, ◌<◌, ◌≤◌, option_map, ◌<ℤ◌, ◌≤ℤ◌, ◌+ℤ◌, ◌-ℤ◌, pos, true, false, None, IsTrue, IsSome, IfSome, is_none, is_some, option_copied, map, find as find_first};
 ghost use Rattle.h2_flow.specs.Range.{least, greatest};
 ghost use Rattle.h2_streams.specs.Book.{no_streams, find, is_idle, state_in, with_stream, without};
 ghost use Rattle.indexmap.specs.IndexMap.{values};
@@ -97,6 +97,20 @@ impl Streams {
         self.live.insert(id, stream)?;
         self.last = id;
         Ok(())
+    }
+
+    /// The last id that was begun, or 0.
+    pub fn last(&self) -> u32
+        ensures { result ≡ self.now.last }
+    {
+        self.last
+    }
+
+    /// Whether a stream lives.
+    pub fn is_live(&self, id: u32) -> bool
+        ensures { result ≡ is_some (find self.now id) }
+    {
+        self.live.contains_key(&id)
     }
 
     /// The state of an id.
@@ -231,6 +245,18 @@ impl Streams {
         }
     }
 
+    /// How many bytes may be sent on a stream, where it lives; its id was begun then.
+    pub fn window_of(&self, id: u32) -> Option<i64>
+        ensures window { result ≡ option_map (λ stream. stream.send) (find self.now id) }
+        ensures some { IsSome result → 0 < id }
+        ensures begun { IsSome result → id ≤ self.now.last }
+    {
+        match self.live.get(&id) {
+            Some(stream) => Some(stream.send.value()),
+            None => None,
+        }
+    }
+
     /// The client lets `add` more bytes be sent on a live stream. Refused: `Overflow` exactly where the sum is above
     /// 2,147,483,647; the window then stays.
     pub fn grant(&mut self, id: u32, add: u32) -> Result<(), Overflow>
@@ -323,6 +349,14 @@ fn shift_live(live: &mut IndexMap<u32, Stream>, by: i64)
 }
 
 impl Streams {
+    /// Whether a change of the initial size, by `by` bytes, leaves all send windows at most 2,147,483,647. It takes
+    /// time for each live stream.
+    pub fn can_shift(&self, by: i64) -> bool
+        ensures { result ≡ is_none (first_above self.now by) }
+    {
+        first_above(&self.live, by).is_none()
+    }
+
     /// SETTINGS change the initial size, by `by` bytes, of all send windows (RFC 9113 section 6.9.2); none may fall
     /// below -2,147,483,648. Refused: `Overflow` exactly where one would pass 2,147,483,647, with the sum of the
     /// first such in the order of opening; all windows then stay. It takes time for each live stream.
