@@ -1,0 +1,165 @@
+-- The steps between a frame's coming and the connection that has it.
+use Rattle.std.specs.Prelude.{◌≡◌, ℕ, ◌+◌, ◌==◌, Bool, true, List, [], ◌∷◌, ◌++◌, map, Option, None, Some, option_to_list, if◌then◌else◌}
+use Rattle.h2_frames.specs.declared.frame.Frame.{Frame}
+use Rattle.h2_frames.specs.declared.frame.Frame.TheVariants as frames
+use Rattle.h2_frames.specs.declared.pairs.Pair.{Pair}
+use Rattle.h2_frames.specs.declared.fault.H2Fault.{H2Fault}
+use Rattle.h2_conn.specs.declared.block.OpenBlock.{OpenBlock}
+use Rattle.h2_conn.specs.declared.event.Event.{Event}
+use Rattle.h2_conn.specs.declared.block.Owed.{Owed}
+use Rattle.h2_conn.specs.declared.control.Control.{Control}
+use Rattle.h2_conn.specs.declared.control.Control.TheVariants as control
+use Rattle.h2_conn.specs.declared.taken.Taken.{Taken}
+use Rattle.h2_conn.specs.declared.taken.Taken.TheVariants as taken
+use Rattle.h2_conn.specs.Codes.{protocol_error, stream_closed}
+use Rattle.h2_conn.specs.Record.{Record, In}
+use Rattle.h2_conn.specs.Windows.{initial_of, connection_window_of}
+use Rattle.h2_conn.specs.Ids.{last_of}
+use Rattle.h2_conn.specs.Resets.{reset_by, resets_of}
+use Rattle.h2_conn.specs.Faults.{fault_by, first_fault_of, broken, code_if, first_broken, preface_code, is_outside, settings_code, even_code, idle_code, zero_code, grant_code, shift_code, block_code, size_code, flood_code, flood_of}
+use Rattle.h2_conn.specs.Blocks.{open_of, table_of, whole_block, block_with}
+use Rattle.hpack_blocks.specs.Answers.{Open}
+use Rattle.h2_conn.specs.Credits.{owed_of, given_of, kept_of, kept_by}
+use Rattle.h2_conn.specs.Control.{control_of, written_control_of, frame_of}
+use Rattle.h2_conn.specs.Events.{event_by, events_of}
+use Rattle.h2_streams.specs.Book.{without_reset}
+use Rattle.h2_answers.specs.Waiting.{nothing, with_reset, waiting_on, ChangesOnly}
+use Rattle.h2_conn.specs.declared.hearing.Heard.{Heard}
+use Rattle.h2_conn.specs.Hearing.{Tells}
+use Rattle.h2_conn.specs.Kept.{kept_on, KeptOnly}
+use Rattle.h2_conn.specs.Texts.{has_headed}
+use Rattle.h2_conn.specs.Held.{Held}
+use Rattle.h2_conn.specs.Stands.{StreamsStand, StandsFor, OpenStands, StandsBy}
+
+-- the control frames due when the next frame comes
+abbrev pub settled_control : Record → List Frame
+settled_control r = control_of r ++ given_of r (owed_of r)
+
+-- the credit that is kept then
+abbrev pub settled_kept : Record → ℕ → ℕ
+settled_kept r id = kept_of r id + kept_by r (owed_of r) id
+
+-- the credit of the latest frame is given or kept
+abbrev pub Settled : Held → Record → Type 0
+Settled c r = StandsFor c r (settled_control r) None (settled_kept r)
+
+-- The rules that are tested before a frame changes anything: all but those of send windows, those of whole blocks, and
+-- the count of frames that ask for nothing.
+unfoldable pub early_fault : (begun : Bool) → Option OpenBlock → (last : ℕ) → Frame → Option H2Fault
+early_fault begun block last frame = first_broken (
+    broken 7 (preface_code begun frame)
+    ∷ broken 8 (code_if (is_outside block frame) protocol_error)
+    ∷ broken 9 (settings_code frame)
+    ∷ broken 11 (even_code frame)
+    ∷ broken 12 (idle_code last frame)
+    ∷ broken 13 (zero_code frame)
+    ∷ [])
+
+-- the other rules
+unfoldable pub late_fault : Record → Frame → Option H2Fault
+late_fault r frame = first_broken (
+    broken 10 (shift_code r frame)
+    ∷ broken 14 (grant_code (connection_window_of r) frame)
+    ∷ broken 15 (block_code r (whole_block r frame))
+    ∷ broken 16 (size_code (block_with r frame))
+    ∷ broken 17 (flood_code (flood_of r) frame)
+    ∷ [])
+
+abbrev pub early_of : Held → Frame → Option H2Fault
+early_of c frame = early_fault c.has_begun c.block c.streams.last frame
+
+-- The frame breaks the rule, and this is what is left of the connection that it ends.
+pub record Fails (r : Record) (frame : Frame) (fault : H2Fault) (c : Held) : Type 0 where
+  pub breaks : fault_by r frame ≡ Some fault
+  pub controls : written_control_of r ++ map frame_of c.control ≡ settled_control r
+  pub last : c.streams.last ≡ last_of r
+
+-- The frame breaks no rule, tells this, and the connection has it.
+pub record Takes (r : Record) (frame : Frame) (event : Option Event) (c : Held) : Type 0 where
+  pub breaks : fault_by r frame ≡ None
+  pub tells : event_by r frame (reset_by (resets_of r) r frame) ≡ event
+  pub stands : OpenStands c (In frame ∷ r)
+
+abbrev pub Took : Record → Frame → Taken → Held → Type 0
+Took r frame (taken.Breaks fault) c = Fails r frame fault c
+Took r frame taken.Passes c = Takes r frame None c
+Took r frame (taken.Tells event) c = Takes r frame (Some event) c
+
+-- what a frame that no early rule refuses does
+abbrev pub Taking : (old : Held) → Frame → Taken → (new : Held) → Type 0
+Taking old frame taken new = (r : Record) → Settled old r → Took r frame taken new
+
+-- the frames that are passed over: PRIORITY, GOAWAY, unknown types, and what has ACK
+pub data IsPassed : Frame → Type 0 where
+  IsPriority : (stream : ℕ) → IsPassed (frames.Priority stream)
+  IsAcked : (pairs : List Pair) → IsPassed (frames.Settings true pairs)
+  IsPingAcked : (octets : List ℕ) → IsPassed (frames.Ping true octets)
+  IsGoaway : (last code : ℕ) → IsPassed (frames.Goaway last code)
+  IsUnknown : (kind stream : ℕ) → IsPassed (frames.Unknown kind stream)
+
+-- The server resets a live stream: what waits on it and what is kept of it are dropped.
+pub record Refuses (old : Held) (id code : ℕ) (new : Held) : Type 0 where
+  pub streams : new.streams ≡ without_reset old.streams id
+  pub kept : KeptOnly old.kept new.kept id 0
+  pub answers : ChangesOnly old.answers new.answers id (record nothing { resets = code ∷ [] })
+  pub rest : new ≡ record old { streams = new.streams; kept = new.kept; answers = new.answers }
+
+-- the credit that a payload gives the connection
+abbrev pub payload_credit : (counted : ℕ) → List Control
+payload_credit counted = if counted == 0 then [] else control.Credit 0 counted ∷ []
+
+-- A connection that has counted a frame, which breaks no rule, and has queued what it answers, but hasn't yet seen to
+-- its stream.
+pub record Counted (c : Held) (r : Record) (frame : Frame) : Type 0 where
+  pub sound : first_fault_of r ≡ None
+  pub breaks : fault_by r frame ≡ None
+  pub begun : c.has_begun ≡ true
+  pub window : c.window ≡ connection_window_of r
+  pub initial : c.initial ≡ initial_of r
+  pub streams : StreamsStand c.streams c.answers r
+  pub controls : written_control_of r ++ map frame_of c.control ≡ control_of (In frame ∷ r)
+  pub keeping : (id : ℕ) → kept_on c.kept id ≡ settled_kept r id
+  pub flood : c.flood ≡ flood_of (In frame ∷ r)
+  pub headed : c.has_headed ≡ has_headed r
+
+-- What a frame does to the streams, where DATA speak of no header block.
+pub record CountedBody (c : Held) (r : Record) (frame : Frame) : Type 0 where
+  pub counted : Counted c r frame
+  pub owing : c.owed ≡ None
+  pub block : c.block ≡ open_of r
+  pub table : c.decoder ≡ Open (table_of r)
+
+abbrev pub Serving : (old : Held) → Frame → Taken → (new : Held) → Type 0
+Serving old frame taken new = (r : Record) → CountedBody old r frame → Took r frame taken new
+
+-- the credit that taken DATA give the stream
+abbrev pub owed_if : (stream counted : ℕ) → Option Owed
+owed_if stream counted = if counted == 0 then None else Some (record { stream = stream; bytes = counted })
+
+-- The same of a frame that begins or goes on with a header block: the block and the table are behind it already.
+pub record CountedBlock (c : Held) (r : Record) (frame : Frame) : Type 0 where
+  pub counted : Counted c r frame
+  pub owing : c.owed ≡ None
+  pub block : c.block ≡ open_of (In frame ∷ r)
+  pub table : c.decoder ≡ Open (table_of (In frame ∷ r))
+
+-- what HEADERS do to the streams, given what their block tells
+abbrev pub Heading : (old : Held) (stream : ℕ) (ended : Bool) → Option Heard → Taken → (new : Held) → Type 0
+Heading old stream ended heard taken new = (r : Record) (whole : Bool) (fragment : List ℕ) → CountedBlock old r (frames.Headers stream ended whole fragment)
+    → Tells r (frames.Headers stream ended whole fragment) heard → Took r (frames.Headers stream ended whole fragment) taken new
+
+-- The server resets a stream that was closed before.
+pub record RefusesLate (old : Held) (id : ℕ) (new : Held) : Type 0 where
+  pub answers : ChangesOnly old.answers new.answers id (with_reset (waiting_on old.answers id) stream_closed)
+  pub rest : new ≡ record old { answers = new.answers }
+
+-- what CONTINUATION does that makes a block whole, given what that tells
+abbrev pub Going : (old : Held) (stream : ℕ) (is_late : Bool) → Heard → Taken → (new : Held) → Type 0
+Going old stream is_late heard taken new = (r : Record) (fragment : List ℕ) (block : OpenBlock) → CountedBlock old r (frames.Continuation stream true fragment)
+    → Tells r (frames.Continuation stream true fragment) (Some heard) → whole_block r (frames.Continuation stream true fragment) ≡ Some block → block.stream ≡ stream → block.is_late ≡ is_late
+    → Took r (frames.Continuation stream true fragment) taken new
+
+-- what a frame does to a connection that met no error before
+pub record Follows (r : Record) (frame : Frame) (event : Option Event) (c : Held) : Type 0 where
+  pub stands : StandsBy c.fault c (In frame ∷ r)
+  pub tells : option_to_list event ≡ events_of r frame

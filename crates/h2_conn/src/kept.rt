@@ -1,0 +1,68 @@
+//! The credit that is kept of streams on which many replies wait.
+
+ghost use Rattle.std.specs.Prelude.{◌≡◌, [], ◌+◌, ◌≤◌, ◌^◌, ◌-◌, OnOk, OnErr, nat_eq, if◌then◌else◌, ℕ};
+ghost use Rattle.h2_conn.specs.Kept.{kept_on, KeptOnly};
+
+use indexmap::IndexMap;
+use outside::Memory;
+use std::alloc::Global;
+use std::marker::Model;
+
+/// The greatest increment of WINDOW_UPDATE (RFC 9113 section 6.9).
+const GREATEST: u32 = 0x7fff_ffff;
+
+/// The kept credit, in bytes, by stream; a stream with none takes no place.
+#[derive(Drop)]
+pub(crate) struct Kept {
+    sums: IndexMap<u32, u32>,
+}
+
+impl Model for Kept {
+    ghost use Rattle.std.specs.Prelude.{List, ℕ};
+
+    ghost Value = { List (ℕ × ℕ) };
+
+    ghost view = { λ k. k.sums.entries };
+}
+
+impl Kept {
+    /// None. It can't be refused.
+    pub(crate) fn new(alloc: Global) -> Kept
+        ensures { result ≡ [] }
+    {
+        Kept {
+            sums: IndexMap::new(alloc),
+        }
+    }
+
+    /// What is kept of a stream.
+    pub(crate) fn of(&self, id: u32) -> u32
+        ensures { result ≡ kept_on self.now id }
+    {
+        match self.sums.get(&id) {
+            Some(sum) => *sum,
+            None => 0,
+        }
+    }
+
+    /// Keeps `bytes` more of a stream. Where memory is refused, or the sum is no increment, all is as it was.
+    pub(crate) fn add(&mut self, id: u32, bytes: u32) -> Result<(), Memory>
+        ensures ok { OnOk result (KeptOnly self.old self.new id (kept_on self.old id + bytes)) }
+        ensures err { OnErr result (self.new ≡ self.old) }
+    {
+        match self.of(id).checked_add(bytes) {
+            Some(sum) if sum <= GREATEST => {
+                self.sums.insert(id, sum)?;
+                Ok(())
+            }
+            _ => Err(Memory),
+        }
+    }
+
+    /// Keeps nothing of a stream any more.
+    pub(crate) fn remove(&mut self, id: u32)
+        ensures { KeptOnly self.old self.new id 0 }
+    {
+        self.sums.shift_remove(&id);
+    }
+}

@@ -1,0 +1,36 @@
+//! One HTTP/2 connection of a server as a pure machine: a client's frames in, events out (RFC 9113).
+//!
+//! - [`Conn`] is the connection. It takes the client's frames one by one, and keeps the streams, the windows, the
+//!   header block that isn't whole, the table of HPACK, and what is due to be written.
+//! - [`Event`] is what a frame tells: a request or a part of one, a reset, or a connection error.
+//!
+//! The definitions speak of a record: the frames that came and went, newest first, with marks for what the caller gave
+//! (`specs/Record`). `specs/Faults` has the connection errors, `specs/Resets` the resets by the server, `specs/Events`
+//! what a frame tells, `specs/Control` and `specs/Credits` the control frames that are due, and `specs/Due` which frame
+//! may be written next. `specs/Stands` says what a connection holds for a record. docs/HTTP2.md numbers the rules.
+#![tactic(auto)]
+
+mod block;
+mod body;
+mod closing;
+mod codes;
+mod conn;
+mod continuation;
+mod control;
+mod dispatch;
+mod early;
+mod event;
+mod flood;
+mod giving;
+mod headers;
+mod hearing;
+mod kept;
+mod payload;
+mod producing;
+mod shift;
+mod take;
+mod taken;
+mod trailing;
+
+pub use conn::Conn;
+pub use event::Event;
