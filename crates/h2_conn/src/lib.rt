@@ -34,3 +34,6 @@ mod trailing;
 
 pub use conn::Conn;
 pub use event::Event;
+
+#[cfg(test)]
+mod tests;
