@@ -27,5 +27,6 @@ fn main() {
         let weight = rows.iter().map(|row| 32 + row.len()).sum();
         Some(table.append(offset, rows, weight))
     });
+    drop(table);
     std::process::exit(ended.unwrap_or(3));
 }

@@ -221,5 +221,6 @@ fn main() {
         })
     });
     std::hint::black_box(sum(&table));
+    drop(table);
     std::process::exit(ended.unwrap_or(3));
 }
