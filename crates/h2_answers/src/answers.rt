@@ -118,7 +118,11 @@ impl Answers {
     pub fn drop_all_of(&mut self, id: u32)
         ensures { ChangesOnly self.old self.new id nothing }
     {
+        let place = self.queues.get_index_of(&id).unwrap_or(usize::MAX);
         self.queues.shift_remove(&id);
+        if place < self.turn {
+            self.turn -= 1;
+        }
     }
 
     /// Drops all that waits on every stream, as where the connection ends by a fault.
@@ -138,6 +142,23 @@ impl Answers {
         }
     }
 
+    /// Whether nothing waits on a stream, so that an answer may begin on it.
+    pub fn has_none(&self, id: u32) -> bool
+        ensures { IsTrue result ↔ (waiting_on self.now id ≡ nothing) }
+    {
+        !self.queues.contains_key(&id)
+    }
+
+    /// Whether nothing that waits on a stream ends it, so that more of its answer may follow.
+    pub fn is_open_ended(&self, id: u32) -> bool
+        ensures { IsTrue result ↔ IsOpenEnded (waiting_on self.now id) }
+    {
+        match self.queues.get(&id) {
+            Some(queue) => queue.is_open_ended(),
+            None => true,
+        }
+    }
+
     /// How many bytes of replies wait on a stream, at most 2^62.
     pub fn bytes_waiting(&self, id: u32) -> u64
         ensures value { result ≡ length (data_of (waiting_on self.now id)) }
@@ -147,13 +168,6 @@ impl Answers {
             Some(queue) => queue.bytes(),
             None => 0,
         }
-    }
-
-    /// Whether nothing waits on any stream.
-    pub fn is_empty(&self) -> bool
-        ensures { IsTrue result ↔ ((id : ℕ) → waiting_on self.now id ≡ nothing) }
-    {
-        self.queues.is_empty()
     }
 }
 
@@ -224,39 +238,6 @@ impl Answers {
         let bytes = self.frame(alloc, due, first)?;
         self.advance(due.stream, due.part);
         Ok(bytes)
-    }
-
-    /// Takes a frame as `take` does, and gives a reset of its stream behind what still waits there, as where an answer
-    /// ends before its request. Where memory is refused, all is as it was.
-    pub fn take_and_reset(
-        &mut self,
-        alloc: Global,
-        due: Due,
-        first: bool,
-        code: u32,
-    ) -> Result<Blob, Memory>
-        requires { IsAhead self.old due }
-        ensures spelled { IfOk result (λ bytes. bytes ≡ spelling (due_frame first self.old due)) }
-        ensures writable { IsWritable (due_frame first self.old due) }
-        ensures in_range { IsInRange (due_frame first self.old due) }
-        ensures ok { OnOk result (ChangesOnly self.old self.new due.stream (with_reset (waiting_behind self.old due) code)) }
-        ensures err { OnErr result (self.new ≡ self.old) }
-    {
-        let bytes = self.frame(alloc, due, first)?;
-        self.advance_and_reset(due.stream, due.part, code)?;
-        Ok(bytes)
-    }
-
-    // Takes away a part of a stream, which is next, and gives a reset of the stream.
-    fn advance_and_reset(&mut self, id: u32, part: Part, code: u32) -> Result<(), Memory>
-        requires { IsNext (waiting_on self.old id) part }
-        ensures ok { OnOk result (ChangesOnly self.old self.new id (with_reset (without (waiting_on self.old id) part) code)) }
-        ensures err { OnErr result (self.new ≡ self.old) }
-    {
-        match self.queues.get_mut(&id) {
-            Some(queue) => queue.advance_and_reset(part, code),
-            None => unreachable!(),
-        }
     }
 }
 

@@ -24,6 +24,3 @@ pub use answers::Answers;
 pub use laws::{data_goes_from_ten_bytes, replies_keep_their_bytes};
 pub use limits::Limits;
 pub use part::{Due, Part};
-
-#[cfg(test)]
-mod tests;

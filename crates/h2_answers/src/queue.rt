@@ -6,7 +6,7 @@ ghost use Rattle.h2_frames.specs.Header.{max_frame_size};
 ghost use Rattle.h2_frames.specs.Sound.{IsStreamId, IsInRange};
 ghost use Rattle.h2_frames.specs.Spelling.{spelling, IsWritable};
 ghost use Rattle.h2_answers.specs.Bounds.{bounds_of};
-ghost use Rattle.h2_answers.specs.Waiting.{nothing, data_of, with_given, with_reset, without};
+ghost use Rattle.h2_answers.specs.Waiting.{nothing, data_of, with_given, without, IsOpenEnded};
 ghost use Rattle.h2_answers.specs.Due.{IsNext, IsNextPart, frame_of, block_of};
 ghost use Rattle.h2_answers.specs.Kept.{IsShortGiven};
 ghost use Rattle.h2_answers.specs.Search.{IsGreatestLen, IsOpen};
@@ -63,6 +63,17 @@ impl Queue {
             && self.resets.is_empty()
     }
 
+    /// Whether nothing that waits ends the stream.
+    pub(crate) fn is_open_ended(&self) -> bool
+        ensures { IsTrue result ↔ IsOpenEnded self.now }
+    {
+        let ends = match &self.head {
+            Some(head) => head.end,
+            None => false,
+        };
+        !ends && self.tail.is_none() && self.resets.is_empty()
+    }
+
     /// How many replies wait.
     pub(crate) fn replies(&self) -> usize
         ensures { result ≡ length self.now.replies }
@@ -106,17 +117,6 @@ impl Queue {
                 self.resets.pop_front();
             }
         }
-    }
-
-    /// Takes away a part, which is next, and adds a reset behind the rest.
-    pub(crate) fn advance_and_reset(&mut self, part: Part, code: u32) -> Result<(), Memory>
-        requires { IsNext self.old part }
-        ensures ok { OnOk result (self.new ≡ with_reset (without self.old part) code) }
-        ensures err { OnErr result (self.new ≡ self.old) }
-    {
-        self.resets.push_back(code)?;
-        self.advance(part);
-        Ok(())
     }
 
     /// The frame of a part, which is next.
