@@ -9,13 +9,14 @@ use Rattle.h2_conn.specs.declared.hearing.Heard.{Heard}
 use Rattle.h2_conn.specs.declared.hearing.Heard.TheVariants as heard
 use Rattle.h2_conn.specs.Record.{Record, In}
 use Rattle.h2_conn.specs.Blocks.{begun_block, table_of, table_after, table_behind, whole_block, reading_of}
-use Rattle.h2_conn.specs.Resets.{malformed_reading}
-use Rattle.h2_conn.specs.Faults.{broken, code_if, reading_code, size_code}
+use Rattle.h2_conn.specs.Refusals.{malformed_reading}
+use Rattle.h2_conn.specs.Rules.{broken, code_if, reading_code, size_code}
 use Rattle.h2_conn.specs.Events.{read_event}
 use Rattle.h2_conn.specs.Hearing.{Hears, Tells}
 use Rattle.h2_conn.specs.Control.{frame_of, written_control_of}
 use Rattle.h2_conn.specs.Held.{Held}
-use Rattle.h2_conn.specs.Taking.{Settled, early_of, late_fault, Fails, CountedBlock}
+use Rattle.h2_conn.specs.Counting.{CountedBlock}
+use Rattle.h2_conn.specs.Taking.{Settled, early_of, late_fault, Fails}
 use Rattle.h2_conn.proofs.BoolLemmas.{lt-no}
 use Rattle.h2_conn.proofs.FaultSplit.{breaks-late}
 use Rattle.h2_conn.proofs.StepLemmas.{controls-in}

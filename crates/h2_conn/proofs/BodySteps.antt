@@ -1,6 +1,5 @@
 -- What DATA leave of a connection.
 use Rattle.std.proofs.Common.{◌≡◌, ℕ, ◌+◌, ◌%◌, ◌==◌, nat_lt, Bool, true, false, not, ◌&&◌, ◌||◌, List, [], ◌∷◌, ◌++◌, map, Option, None, Some, IfSome, pos, ◌-ℤ◌, refl, sym, ap, subst, ◌∙◌, arith, if◌then◌else◌}
-use Rattle.std.specs.Option.{option_or}
 use Rattle.std.proofs.lemmas.Int.{ints}
 use Rattle.hpack_blocks.specs.Answers.{Standing, Open}
 use Rattle.h2_frames.specs.declared.frame.Frame.{Frame}
@@ -19,7 +18,8 @@ use Rattle.h2_conn.specs.Windows.{connection_window_of, receive_window_of, with_
 use Rattle.h2_conn.specs.Ids.{last_of}
 use Rattle.h2_conn.specs.Blocks.{open_of, table_of}
 use Rattle.h2_conn.specs.Live.{Reset, opens, ends, finishes, cancels, is_reset, is_live_with, entry_of, is_idle_above}
-use Rattle.h2_conn.specs.Resets.{reset_by, with_reset, resets_of, is_live, is_open, state_of, body_refusal, first_reset}
+use Rattle.h2_conn.specs.Resets.{reset_by, with_reset, resets_of, is_live, is_open, state_of}
+use Rattle.h2_conn.specs.Refusals.{body_refusal, first_reset}
 use Rattle.h2_conn.specs.Faults.{flood_code}
 use Rattle.h2_conn.specs.Replies.{replies_of}
 use Rattle.h2_conn.specs.Credits.{kept_of, owed_of}
@@ -29,8 +29,10 @@ use Rattle.h2_conn.specs.Kept.{KeptOnly}
 use Rattle.h2_conn.specs.Payload.{paid, Pays}
 use Rattle.h2_conn.specs.Held.{Held}
 use Rattle.h2_conn.specs.Stands.{OpenStands}
-use Rattle.h2_conn.specs.Taking.{Settled, settled_kept, early_of, late_fault, Takes, Refuses, Counted, CountedBody, payload_credit, owed_if}
-use Rattle.h2_conn.proofs.BoolLemmas.{same-self, or-second, and-false, lt-false}
+use Rattle.h2_conn.specs.Counting.{Counted, CountedBody, payload_credit, owed_if}
+use Rattle.h2_conn.specs.Taking.{Settled, settled_kept, early_of, late_fault, Takes, Refuses}
+use Rattle.h2_conn.proofs.BoolLemmas.{and-true-or-false, same-self, or-second, and-false, lt-false}
+use Rattle.h2_conn.proofs.OptionLemmas.{or-nothing}
 use Rattle.h2_conn.proofs.FloodLemmas.{sound-flood, count-flood}
 use Rattle.h2_conn.proofs.StepLemmas.{sound-in, controls-in}
 use Rattle.h2_conn.proofs.TouchLemmas.{TouchesOne, IsOf, streams-touch}
@@ -101,15 +103,11 @@ owed-shut r stream counted true bytes shut = refl
 owed-shut r stream counted false bytes shut =
     λ i. if (shut i && not (any_in (ends stream) r)) && not (counted == 0) then Some (record { stream = stream; bytes = counted }) else None
 
--- what DATA on an id of this state make due
-or-nothing : (x : Option Reset) → option_or x None ≡ x
-or-nothing None = refl
-or-nothing (Some reset) = refl
-
 module _ (r : Record) (stream counted : ℕ) (end : Bool) (bytes : List ℕ) where
-  made-by : reset_by (resets_of r) r (frames.Body stream end bytes counted) ≡ body_refusal (receive_window_of r stream) stream counted (state_of r stream)
+  -- what DATA on an id of this state make due
+  pub made-body : reset_by (resets_of r) r (frames.Body stream end bytes counted) ≡ body_refusal (receive_window_of r stream) stream counted (state_of r stream)
   unfolding reset_by
-  made-by = or-nothing (body_refusal (receive_window_of r stream) stream counted (state_of r stream))
+  made-body = or-nothing (body_refusal (receive_window_of r stream) stream counted (state_of r stream))
 
   on-body : (x : Option Reset) → is_live r stream ≡ true → reset_by (resets_of r) r (frames.Body stream end bytes counted) ≡ x → IsOf x stream → OnLive r (frames.Body stream end bytes counted) stream x
   on-body x live made of = record { live = live; made = made; of = of; on = λ other off. off; steady = refl; begun = refl; last = refl }
@@ -122,7 +120,7 @@ module _ (r : Record) (stream counted : ℕ) (end : Bool) (bytes : List ℕ) whe
       let frame = frames.Body stream end bytes counted in
       let s = b.counted in
       let reset : Reset = record { stream = stream; code = code; is_first = true } in
-      let made = made-by ∙ refused in
+      let made = made-body ∙ refused in
       let shut = reset-shut r frame stream code true made in
       let after : Held = record c { streams = c'.streams; kept = c'.kept; answers = c'.answers } in
       subst (λ (h : Held). Takes r frame (Some (event.Reset stream code)) h) (sym refuses.rest) (record {
@@ -153,7 +151,7 @@ module _ (r : Record) (stream counted : ℕ) (end : Bool) (bytes : List ℕ) whe
       let frame = frames.Body stream end bytes counted in
       let s = b.counted in
       let closed = state-closed r stream true state in
-      let made = made-by ∙ ap (body_refusal (receive_window_of r stream) stream counted) state in
+      let made = made-body ∙ ap (body_refusal (receive_window_of r stream) stream counted) state in
       let o = shut-body None closed.0 closed.1 made tt in
       record {
         breaks = s.breaks;
@@ -171,7 +169,7 @@ module _ (r : Record) (stream counted : ℕ) (end : Bool) (bytes : List ℕ) whe
       let s = b.counted in
       let closed = state-closed r stream false state in
       let reset : Reset = record { stream = stream; code = 5; is_first = false } in
-      let made = made-by ∙ ap (body_refusal (receive_window_of r stream) stream counted) state in
+      let made = made-body ∙ ap (body_refusal (receive_window_of r stream) stream counted) state in
       let o = shut-body (Some reset) closed.0 closed.1 made refl in
       record {
         breaks = s.breaks;
@@ -197,11 +195,7 @@ module _ (r : Record) (stream counted : ℕ) (end : Bool) (bytes : List ℕ) whe
       ∙ live
 
   ends-now : any_in (ends stream) r ≡ false → (ends stream (frames.Body stream end bytes counted) || any_in (ends stream) r) ≡ end
-  ends-now going = (λ i. (end && same-self stream i) || going i) ∙ last end
-    where
-      last : (b : Bool) → ((b && true) || false) ≡ b
-      last true = refl
-      last false = refl
+  ends-now going = (λ i. (end && same-self stream i) || going i) ∙ and-true-or-false end
 
   paid-entry : any_in (ends stream) r ≡ false → paid (entry_of r stream) end counted ≡ entry_of (In (frames.Body stream end bytes counted) ∷ r) stream
   paid-entry going =
@@ -224,7 +218,7 @@ module _ (r : Record) (stream counted : ℕ) (end : Bool) (bytes : List ℕ) whe
       let waits = waits-live c.streams c.answers r stream s.streams live.0 in
       let going = waits.unfinished live.1 in
       let is = pay.1 going in
-      let made = made-by ∙ ap (body_refusal (receive_window_of r stream) stream counted) state
+      let made = made-body ∙ ap (body_refusal (receive_window_of r stream) stream counted) state
       ∙ (λ i. if lt-no-int (receive_window_of r stream) (pos counted) pay.0 i then first_reset stream 3 else None) in
       let open_still = still-open made live.0 going in
       record {
@@ -251,7 +245,7 @@ module _ (r : Record) (stream counted : ℕ) (end : Bool) (bytes : List ℕ) whe
       → IfSome (find c.streams stream) (Pays c.streams stream end counted true streams) → reset_by (resets_of r) r (frames.Body stream end bytes counted) ≡ None
   made-none c streams b live state pays =
       let pay = subst (λ (o : Option Stream). IfSome o (Pays c.streams stream end counted true streams)) (b.counted.streams.found stream ∙ found-some (is_live r stream) (entry_of r stream) live) pays in
-      made-by ∙ ap (body_refusal (receive_window_of r stream) stream counted) state
+      made-body ∙ ap (body_refusal (receive_window_of r stream) stream counted) state
       ∙ (λ i. if lt-no-int (receive_window_of r stream) (pos counted) pay.0 i then first_reset stream 3 else None)
 
   owed-ended : end ≡ true → owed_of (In (frames.Body stream end bytes counted) ∷ r) ≡ None

@@ -30,6 +30,10 @@ pub and-true : (a : Bool) → (a && true) ≡ a
 and-true true = refl
 and-true false = refl
 
+pub and-true-or-false : (a : Bool) → ((a && true) || false) ≡ a
+and-true-or-false true = refl
+and-true-or-false false = refl
+
 pub or-true : (a : Bool) → (a || true) ≡ true
 or-true true = refl
 or-true false = refl

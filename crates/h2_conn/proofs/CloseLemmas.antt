@@ -16,7 +16,8 @@ use Rattle.h2_conn.specs.Live.{Reset, opens, ends, finishes, cancels, is_reset, 
 use Rattle.h2_conn.specs.Resets.{reset_by, with_reset, resets_of, is_live}
 use Rattle.h2_conn.specs.Texts.{codes_on}
 use Rattle.h2_conn.specs.Fresh.{is_on}
-use Rattle.h2_conn.specs.Stands.{WaitsBy, WaitsLive, WaitsClosed, StreamsStand}
+use Rattle.h2_conn.specs.Stands.{StreamsStand}
+use Rattle.h2_conn.specs.Waits.{WaitsBy, WaitsLive, WaitsClosed}
 use Rattle.h2_conn.proofs.BoolLemmas.{or-first, or-second, and-first, and-second, and-true, and-false, apart-flip, same-eq, same-self, by-test}
 use Rattle.h2_conn.proofs.LiveLemmas.{unopened, distinct-begun, distinct-filter, filter-same, keys-closed}
 use Rattle.h2_conn.proofs.TouchLemmas.{TouchesOne, IsOf, away-of, live-other}
@@ -83,7 +84,7 @@ pub record OnLive (r : Record) (frame : Frame) (id : ℕ) (x : Option Reset) : T
   pub begun : begun_of (In frame ∷ r) ≡ begun_of r
   pub last : last_of (In frame ∷ r) ≡ last_of r
 
-found-none : (live : Bool) (entry : Stream) → live ≡ false → (if live then Some entry else None) ≡ None
+pub found-none : (live : Bool) (entry : Stream) → live ≡ false → (if live then Some entry else None) ≡ None
 found-none true entry e = absurd (true≢false e)
 found-none false entry e = refl
 

@@ -14,15 +14,17 @@ use Rattle.h2_conn.specs.Record.{Record, In}
 use Rattle.h2_conn.specs.Ids.{begun_of}
 use Rattle.h2_conn.specs.Blocks.{continued, open_of, whole_block, reading_of}
 use Rattle.h2_conn.specs.Live.{Reset, remembered_in}
-use Rattle.h2_conn.specs.Resets.{reset_by, with_reset, resets_of, is_live, malformed_block, first_reset}
-use Rattle.h2_conn.specs.Faults.{broken, code_if, block_code, reading_code, size_code, is_large}
+use Rattle.h2_conn.specs.Resets.{reset_by, with_reset, resets_of, is_live}
+use Rattle.h2_conn.specs.Refusals.{malformed_block, first_reset}
+use Rattle.h2_conn.specs.Rules.{broken, code_if, block_code, reading_code, size_code, is_large}
 use Rattle.h2_conn.specs.Control.{frame_of, written_control_of}
 use Rattle.h2_conn.specs.Events.{event_by, served_event, whole_event, is_request}
 use Rattle.h2_conn.specs.Kept.{KeptOnly}
 use Rattle.h2_conn.specs.Hearing.{Hears, Tells}
 use Rattle.h2_conn.specs.Held.{Held}
 use Rattle.h2_conn.specs.Stands.{StreamsStand}
-use Rattle.h2_conn.specs.Taking.{Settled, early_of, late_fault, Fails, Takes, Refuses, Counted, CountedBlock}
+use Rattle.h2_conn.specs.Counting.{Counted, CountedBlock}
+use Rattle.h2_conn.specs.Taking.{Settled, early_of, late_fault, Fails, Takes, Refuses}
 use Rattle.h2_conn.proofs.FaultSplit.{breaks-late}
 use Rattle.h2_conn.proofs.StepLemmas.{sound-in, controls-in, kept-in}
 use Rattle.h2_conn.proofs.LiveLemmas.{filter-same}

@@ -4,7 +4,7 @@ use Rattle.std.proofs.lemmas.Bool.{eqb-true}
 use Rattle.std.specs.Option.{option_or}
 use Rattle.h2_frames.specs.declared.fault.H2Fault.{H2Fault}
 use Rattle.h2_frames.specs.declared.pairs.Pair.{Pair}
-use Rattle.h2_conn.specs.Faults.{pair_code, pairs_code, first_broken, broken, code_if, preface_code, is_outside, settings_code, even_code, idle_code, zero_code}
+use Rattle.h2_conn.specs.Rules.{pair_code, pairs_code, first_broken, broken, code_if, preface_code, is_outside, settings_code, even_code, idle_code, zero_code}
 use Rattle.h2_frames.specs.declared.frame.Frame.TheVariants as frames
 use Rattle.h2_conn.specs.Live.{is_idle_above}
 use Rattle.h2_conn.specs.declared.block.OpenBlock.{OpenBlock}

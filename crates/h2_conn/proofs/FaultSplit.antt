@@ -7,7 +7,8 @@ use Rattle.h2_frames.specs.declared.fault.H2Fault.{H2Fault}
 use Rattle.h2_conn.specs.Record.{Record, has_begun}
 use Rattle.h2_conn.specs.Ids.{last_of}
 use Rattle.h2_conn.specs.Blocks.{open_of}
-use Rattle.h2_conn.specs.Faults.{broken, fault_by, code_if, preface_code, is_outside, settings_code, even_code, idle_code, zero_code}
+use Rattle.h2_conn.specs.Faults.{fault_by}
+use Rattle.h2_conn.specs.Rules.{broken, code_if, preface_code, is_outside, settings_code, even_code, idle_code, zero_code}
 use Rattle.h2_conn.specs.Held.{Held}
 use Rattle.h2_conn.specs.Taking.{early_fault, early_of, late_fault, Settled}
 

@@ -4,7 +4,8 @@ use Rattle.std.specs.Option.{option_or}
 use Rattle.h2_frames.specs.declared.frame.Frame.{Frame}
 use Rattle.h2_frames.specs.declared.fault.H2Fault.{H2Fault}
 use Rattle.h2_conn.specs.Record.{Record, In}
-use Rattle.h2_conn.specs.Faults.{broken, fault_by, flood_code, flood_of, is_flood}
+use Rattle.h2_conn.specs.Faults.{fault_by, flood_code, flood_of, is_flood}
+use Rattle.h2_conn.specs.Rules.{broken}
 use Rattle.h2_conn.specs.Held.{Held}
 use Rattle.h2_conn.specs.Taking.{early_of, late_fault, Settled, Fails}
 use Rattle.h2_conn.proofs.FaultSplit.{breaks-late}

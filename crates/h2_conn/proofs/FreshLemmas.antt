@@ -10,12 +10,8 @@ use Rattle.h2_conn.specs.Resets.{is_live}
 use Rattle.h2_conn.specs.Replies.{replies_of}
 use Rattle.h2_conn.specs.Texts.{Fields, Octet, Aborted, has_headed, given_text, written_text, frame_text, part_text, written_codes}
 use Rattle.h2_conn.specs.Fresh.{is_on, speaks, is_spoken}
-use Rattle.h2_conn.proofs.BoolLemmas.{or-first, or-second, or-none, and-false}
-use Rattle.h2_conn.proofs.TouchLemmas.{apart}
-
-finishes-off : (id : ℕ) (frame : Frame) → is_on id frame ≡ false → finishes id frame ≡ false
-finishes-off id (frames.Headers stream end whole fragment) off = (λ i. end && off i) ∙ and-false end
-finishes-off id frame off = refl
+use Rattle.h2_conn.proofs.BoolLemmas.{or-first, or-second, or-none}
+use Rattle.h2_conn.proofs.TouchLemmas.{apart, finishes-off}
 
 module _ (id : ℕ) where
   rest : (x : Item) (r : Record) → is_spoken (x ∷ r) id ≡ false → is_spoken r id ≡ false

@@ -17,7 +17,8 @@ use Rattle.h2_conn.specs.Replies.{replies_of, unwritten_of}
 use Rattle.h2_conn.specs.Texts.{Token, Fields, Octet, Aborted, part_text, given_text, written_text}
 use Rattle.h2_conn.specs.Fresh.{is_spoken}
 use Rattle.h2_conn.specs.Held.{Held}
-use Rattle.h2_conn.specs.Stands.{head_text, tail_text, waiting_text, WaitsBy, WaitsLive, StreamsStand, OpenStands, StandsBy, Stands}
+use Rattle.h2_conn.specs.Stands.{StreamsStand, OpenStands, StandsBy, Stands}
+use Rattle.h2_conn.specs.Waits.{head_text, tail_text, waiting_text, WaitsBy, WaitsLive}
 use Rattle.h2_conn.proofs.BoolLemmas.{or-none, apart-above, apart-flip, same-eq, same-self, by-test}
 use Rattle.h2_conn.proofs.CloseLemmas.{live-within}
 use Rattle.h2_conn.proofs.ResetLemmas.{waits-live, waits-here, waits-elsewhere}

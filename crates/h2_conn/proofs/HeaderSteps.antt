@@ -16,16 +16,18 @@ use Rattle.h2_conn.specs.Windows.{data_out}
 use Rattle.h2_conn.specs.Ids.{last_of, begun_of}
 use Rattle.h2_conn.specs.Blocks.{whole_block}
 use Rattle.h2_conn.specs.Live.{Reset, opens, ends, finishes, cancels, is_reset, is_live_with, entry_of, is_idle_above}
-use Rattle.h2_conn.specs.Resets.{reset_by, with_reset, resets_of, is_live, state_of, live_of, headers_refusal, malformed_block, is_served_state, first_reset}
+use Rattle.h2_conn.specs.Resets.{reset_by, with_reset, resets_of, is_live, state_of, live_of}
+use Rattle.h2_conn.specs.Refusals.{headers_refusal, malformed_block, is_served_state, first_reset}
 use Rattle.h2_conn.specs.Replies.{replies_of}
 use Rattle.h2_conn.specs.Credits.{kept_of}
 use Rattle.h2_conn.specs.Events.{event_by, whole_event, is_request}
 use Rattle.h2_conn.specs.Kept.{kept_on, KeptOnly}
 use Rattle.h2_conn.specs.Trailing.{EndsTo}
 use Rattle.h2_conn.specs.Held.{Held}
-use Rattle.h2_conn.specs.Taking.{settled_kept, Takes, Refuses, CountedBlock}
+use Rattle.h2_conn.specs.Counting.{CountedBlock}
+use Rattle.h2_conn.specs.Taking.{settled_kept, Takes, Refuses}
 use Rattle.h2_conn.specs.Hearing.{Tells}
-use Rattle.h2_conn.proofs.BoolLemmas.{same-self, or-second, and-false, lt-false, lt-no}
+use Rattle.h2_conn.proofs.BoolLemmas.{and-true-or-false, same-self, or-second, and-false, lt-false, lt-no}
 use Rattle.h2_conn.proofs.TouchLemmas.{IsOf}
 use Rattle.h2_conn.proofs.CloseLemmas.{OnLive, touch-keep, live-within, live-opened, found-some}
 use Rattle.h2_conn.proofs.ShutLemmas.{OnShut, touch-shut}
@@ -141,11 +143,7 @@ module _ (r : Record) (stream : ℕ) (ended whole : Bool) (fragment : List ℕ) 
       ∙ live
 
   ends-now : any_in (ends stream) r ≡ false → (ends stream (frames.Headers stream ended whole fragment) || any_in (ends stream) r) ≡ ended
-  ends-now going = (λ i. (ended && same-self stream i) || going i) ∙ last ended
-    where
-      last : (b : Bool) → ((b && true) || false) ≡ b
-      last true = refl
-      last false = refl
+  ends-now going = (λ i. (ended && same-self stream i) || going i) ∙ and-true-or-false ended
 
   pub takes-headers : (c : Held) (streams : Book) (kept : List (ℕ × ℕ)) (h : Option Heard) → CountedBlock c r (frames.Headers stream ended whole fragment) → state_of r stream ≡ is.Live
       → IsFine h → Tells r (frames.Headers stream ended whole fragment) h

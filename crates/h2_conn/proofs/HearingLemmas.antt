@@ -9,7 +9,7 @@ use Rattle.h2_conn.specs.declared.hearing.Heard.TheVariants as heard
 use Rattle.h2_conn.specs.Record.{Record}
 use Rattle.h2_conn.specs.Ids.{last_of}
 use Rattle.h2_conn.specs.Blocks.{begun_block, whole_block}
-use Rattle.h2_conn.specs.Resets.{malformed_block, first_reset}
+use Rattle.h2_conn.specs.Refusals.{malformed_block, first_reset}
 use Rattle.h2_conn.specs.Events.{whole_event, is_request}
 use Rattle.h2_conn.specs.Hearing.{Tells}
 

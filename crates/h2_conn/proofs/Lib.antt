@@ -1,4 +1,5 @@
 mod BoolLemmas
+mod OptionLemmas
 mod FaultLemmas
 mod LiveLemmas
 mod StepLemmas
@@ -30,4 +31,21 @@ mod GivenText
 mod GivingLemmas
 mod BlockLemmas
 mod WaitingLemmas
+mod KeptLaws
+mod ControlLaws
+mod SettingsLaws
+mod OutLemmas
+mod Ledger
+mod WindowLaws
+mod OutSteps
+mod WithinOut
+mod DueTexts
+mod DueLaws
+mod QuietTexts
+mod QuietOut
+mod CloseOut
+mod HeadOut
+mod BodyOut
+mod ResetOut
+mod ProduceSteps
 mod Rows

@@ -15,7 +15,8 @@ use Rattle.h2_conn.specs.Record.{Record, In, any_in, any_out}
 use Rattle.h2_conn.specs.Windows.{data_out, initial_of, first_window}
 use Rattle.h2_conn.specs.Ids.{last_of, begun_of}
 use Rattle.h2_conn.specs.Live.{Reset, opens, ends, finishes, cancels, is_reset, is_live_with, entry_of}
-use Rattle.h2_conn.specs.Resets.{reset_by, with_reset, resets_of, is_live, is_open, state_of, live_of, malformed_block, is_served_state, first_reset}
+use Rattle.h2_conn.specs.Resets.{reset_by, with_reset, resets_of, is_live, is_open, state_of, live_of}
+use Rattle.h2_conn.specs.Refusals.{malformed_block, is_served_state, first_reset}
 use Rattle.h2_conn.specs.Texts.{codes_on}
 use Rattle.std.proofs.lemmas.List.{length-map}
 use Rattle.h2_conn.specs.declared.event.Event.TheVariants as event
@@ -27,14 +28,16 @@ use Rattle.h2_conn.specs.Events.{event_by, whole_event, is_request}
 use Rattle.h2_conn.specs.Hearing.{Tells}
 use Rattle.h2_conn.specs.Held.{Held}
 use Rattle.h2_conn.specs.Kept.{kept_on, KeptOnly}
-use Rattle.h2_conn.specs.Taking.{settled_kept, Takes, Refuses, CountedBlock}
+use Rattle.h2_conn.specs.Counting.{CountedBlock}
+use Rattle.h2_conn.specs.Taking.{settled_kept, Takes, Refuses}
 use Rattle.h2_conn.proofs.StepLemmas.{settled_kept-closed}
 use Rattle.h2_conn.proofs.BodySteps.{counted-stands}
 use Rattle.h2_conn.proofs.HearingLemmas.{told, IsFine, fine-reset, fine-event, bad-reset, headers-stream}
 use Rattle.h2_conn.proofs.HeaderSteps.{made-headers}
 use Rattle.h2_conn.specs.Fresh.{is_spoken}
-use Rattle.h2_conn.specs.Stands.{WaitsBy, WaitsClosed, StreamsStand, waiting_text}
-use Rattle.h2_conn.proofs.BoolLemmas.{same-self, same-eq, apart-flip, or-first, or-second, and-false, lt-yes, by-test}
+use Rattle.h2_conn.specs.Stands.{StreamsStand}
+use Rattle.h2_conn.specs.Waits.{WaitsBy, WaitsClosed, waiting_text}
+use Rattle.h2_conn.proofs.BoolLemmas.{and-true-or-false, same-self, same-eq, apart-flip, or-first, or-second, and-false, lt-yes, by-test}
 use Rattle.h2_conn.proofs.LiveLemmas.{none-above, unopened, filter-append, filter-agree}
 use Rattle.h2_conn.proofs.TouchLemmas.{TouchesOne, IsOf, away-of, live-other}
 use Rattle.h2_conn.proofs.CloseLemmas.{codes-none, found-some}
@@ -122,12 +125,8 @@ module _ (streams : Book) (answers : List (ℕ × Waiting)) (r : Record) (stream
       answered = finishes-none stream r quiet i;
     }) ∙ plain)
       where
-        plain-ended : (b : Bool) → ((b && true) || false) ≡ b
-        plain-ended true = refl
-        plain-ended false = refl
-
         plain : ◌≡◌ {A = Stream} (record { send = pos (initial_of r) -ℤ pos 0; receive = pos first_window -ℤ pos 0; ended = (ended && true) || false; answered = false }) (new_stream (pos (initial_of r)) ended)
-        plain = λ i. record { send = less i; receive = pos first_window; ended = plain-ended ended i; answered = false }
+        plain = λ i. record { send = less i; receive = pos first_window; ended = and-true-or-false ended i; answered = false }
           where
             less : (pos (initial_of r) -ℤ pos 0) ≡ pos (initial_of r)
             less = omega (arith, ints)

@@ -14,15 +14,18 @@ use Rattle.h2_conn.specs.Blocks.{open_of, table_of}
 use Rattle.h2_conn.specs.Credits.{owed_of}
 use Rattle.h2_conn.specs.Live.{ends, is_live_with}
 use Rattle.h2_conn.specs.Resets.{reset_by, resets_of, is_live, is_open}
-use Rattle.h2_conn.specs.Faults.{broken, fault_by, flood_code, flood_of, is_flood}
+use Rattle.h2_conn.specs.Faults.{fault_by, flood_code, flood_of, is_flood}
+use Rattle.h2_conn.specs.Rules.{broken}
 use Rattle.h2_conn.specs.Replies.{unwritten_of}
 use Rattle.h2_conn.specs.Control.{answer_to, frame_of}
 use Rattle.h2_conn.specs.Texts.{codes_on}
 use Rattle.h2_conn.specs.Held.{Held}
-use Rattle.h2_conn.specs.Stands.{WaitsBy, StreamsStand, OpenStands}
+use Rattle.h2_conn.specs.Stands.{StreamsStand, OpenStands}
+use Rattle.h2_conn.specs.Waits.{WaitsBy}
 use Rattle.h2_conn.specs.Taking.{Settled, Takes}
 use Rattle.h2_frames.specs.declared.fault.H2Fault.{H2Fault}
-use Rattle.h2_conn.specs.Taking.{early_of, late_fault, Fails, IsPassed, IsPriority, IsAcked, IsPingAcked, IsGoaway, IsUnknown}
+use Rattle.h2_conn.specs.Taking.{IsPriority, IsAcked, IsPingAcked, IsGoaway, IsUnknown}
+use Rattle.h2_conn.specs.Taking.{early_of, late_fault, Fails, IsPassed}
 use Rattle.h2_conn.proofs.FloodLemmas.{flood_fault, fails-flood, sound-flood, count-flood}
 use Rattle.h2_conn.proofs.StepLemmas.{sound-in, controls-in, kept-in}
 

@@ -13,7 +13,8 @@ use Rattle.h2_conn.specs.Credits.{kept_of}
 use Rattle.h2_conn.specs.Texts.{codes_on, written_codes}
 use Rattle.h2_conn.specs.Fresh.{is_on}
 use Rattle.h2_conn.specs.Kept.{kept_on, KeptOnly}
-use Rattle.h2_conn.specs.Stands.{WaitsBy, WaitsLive, WaitsClosed, StreamsStand}
+use Rattle.h2_conn.specs.Stands.{StreamsStand}
+use Rattle.h2_conn.specs.Waits.{WaitsBy, WaitsLive, WaitsClosed}
 use Rattle.h2_conn.specs.Taking.{settled_kept}
 use Rattle.h2_conn.proofs.BoolLemmas.{and-false, or-true, apart-flip, same-eq, same-self, by-test}
 use Rattle.h2_conn.proofs.StepLemmas.{kept-in}
@@ -35,11 +36,11 @@ shut-more true true false false true true false false false h = refl
 shut-more true true false false true false false false z h = absurd (true≢false h)
 shut-more true true false false false f false false z h = absurd (true≢false h)
 
-is_of : Option Reset → ℕ → Bool
+pub is_of : Option Reset → ℕ → Bool
 is_of None id = false
 is_of (Some reset) id = id == reset.stream
 
-is_reset-with : (x : Option Reset) (resets : List Reset) (id : ℕ) → is_reset (with_reset resets x) id ≡ (is_of x id || is_reset resets id)
+pub is_reset-with : (x : Option Reset) (resets : List Reset) (id : ℕ) → is_reset (with_reset resets x) id ≡ (is_of x id || is_reset resets id)
 unfolding is_of
 is_reset-with None resets id = refl
 is_reset-with (Some reset) resets id = refl

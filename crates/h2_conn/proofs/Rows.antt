@@ -13,8 +13,10 @@ use Rattle.h2_conn.specs.declared.event.Event.TheVariants as event
 use Rattle.h2_conn.specs.Record.{Record, In, Out}
 use Rattle.h2_conn.specs.Windows.{send_window_of}
 use Rattle.h2_conn.specs.Live.{Reset, is_live_with}
-use Rattle.h2_conn.specs.Resets.{reset_by, reset_behind, resets_of, is_live, state_of, first_reset, headers_refusal}
-use Rattle.h2_conn.specs.Faults.{fault_by, broken}
+use Rattle.h2_conn.specs.Resets.{reset_by, reset_behind, resets_of, is_live, state_of}
+use Rattle.h2_conn.specs.Refusals.{first_reset, headers_refusal}
+use Rattle.h2_conn.specs.Faults.{fault_by}
+use Rattle.h2_conn.specs.Rules.{broken}
 use Rattle.h2_conn.specs.Control.{control_of, own_settings}
 use Rattle.h2_conn.specs.Events.{events_of}
 

@@ -17,7 +17,8 @@ use Rattle.h2_conn.specs.Record.{Record, In, sum_in}
 use Rattle.h2_conn.specs.Windows.{initial_after, initial_of, send_window_of, with_increment, initial_window_size}
 use Rattle.h2_conn.specs.Live.{is_live_with, entry_of}
 use Rattle.h2_conn.specs.Resets.{reset_by, is_live}
-use Rattle.h2_conn.specs.Faults.{broken, code_if, pair_passes, passes_greatest, flood_code}
+use Rattle.h2_conn.specs.Faults.{flood_code}
+use Rattle.h2_conn.specs.Rules.{broken, code_if, pair_passes, passes_greatest}
 use Rattle.h2_conn.specs.Shift.{is_too_large}
 use Rattle.h2_conn.specs.Held.{Held}
 use Rattle.h2_conn.specs.Stands.{StreamsStand}

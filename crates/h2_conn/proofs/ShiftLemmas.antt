@@ -1,7 +1,6 @@
 -- Changes of the initial size: the pairs, and the windows.
 use Rattle.std.proofs.Common.{◌≡◌, ℕ, ◌+◌, ◌-◌, ◌^◌, ◌<◌, ◌==◌, nat_lt, Bool, true, false, ◌&&◌, ◌||◌, ◌⊎◌, inl, inr, List, [], ◌∷◌, map, length, drop, get_or, Option, None, Some, Result, Ok, Err, is_some, ℤ, pos, ◌+ℤ◌, ◌-ℤ◌, refl, sym, ap, subst, ◌∙◌, arith, true≢false, add-one, drop-cons, if◌then◌else◌}
 use Rattle.std.specs.List.{list_any, AllByRecursion}
-use Rattle.std.specs.Option.{option_or}
 use Rattle.std.proofs.lemmas.Int.{ints}
 use Rattle.std.proofs.lemmas.Bool.Decides.{nat_tests}
 use Rattle.h2_frames.specs.declared.pairs.Pair.{Pair}
@@ -10,10 +9,11 @@ use Rattle.h2_streams.specs.Book.{Book}
 use Rattle.h2_flow.specs.declared.window.Overflow.{Overflow}
 use Rattle.h2_streams.specs.Shifts.{Shifts, first_above, shifted_by, shifted, AllStayAboveLeast}
 use Rattle.h2_conn.specs.Windows.{initial_window_size, initial_after}
-use Rattle.h2_conn.specs.Faults.{pair_code, pairs_code, code_if}
+use Rattle.h2_conn.specs.Rules.{pair_code, pairs_code, code_if}
 use Rattle.h2_conn.specs.Shift.{is_too_large}
 use Rattle.h2_conn.specs.Within.{IsNearInitial}
 use Rattle.h2_conn.proofs.BoolLemmas.{or-first, or-second, by-test}
+use Rattle.h2_conn.proofs.OptionLemmas.{first-of, second-of}
 
 -- the initial size with the i-th pair
 pub initial_after-drop : (pairs : List Pair) (i last : ℕ) (d : Pair) → i < length pairs
@@ -47,19 +47,11 @@ good-pair pair good same =
     (λ over. absurd (true≢false (ap is_some (sym (λ i. code_if (over i) 3) ∙ code))))
     (λ within. grind (arith, nat_tests, within))
 
-or-none-first : {A : Type 0} (a b : Option A) → option_or a b ≡ None → a ≡ None
-or-none-first None b e = refl
-or-none-first (Some x) b e = absurd (cc)
-
-or-none-second : {A : Type 0} (a b : Option A) → option_or a b ≡ None → b ≡ None
-or-none-second None b e = e
-or-none-second (Some x) b e = absurd (cc)
-
 pub last-small : (now : ℕ) (pairs : List Pair) → pairs_code pairs ≡ None → now < 2 ^ 31 → initial_after now pairs < 2 ^ 31
 last-small now [] good small = small
-last-small now (pair ∷ pairs) good small = last-small (if pair.id == initial_window_size then pair.value else now) pairs (or-none-second (pair_code pair) (pairs_code pairs) good)
+last-small now (pair ∷ pairs) good small = last-small (if pair.id == initial_window_size then pair.value else now) pairs (second-of (pair_code pair) (pairs_code pairs) good)
     (by-test (pair.id == initial_window_size)
-    (λ same. subst (λ (n : ℕ). n < 2 ^ 31) (sym (λ i. if same i then pair.value else now)) (good-pair pair (or-none-first (pair_code pair) (pairs_code pairs) good) same))
+    (λ same. subst (λ (n : ℕ). n < 2 ^ 31) (sym (λ i. if same i then pair.value else now)) (good-pair pair (first-of (pair_code pair) (pairs_code pairs) good) same))
     (λ apart. subst (λ (n : ℕ). n < 2 ^ 31) (sym (λ i. if apart i then pair.value else now)) small))
 
 -- no window falls below the least

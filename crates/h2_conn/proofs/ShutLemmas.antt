@@ -1,8 +1,7 @@
 -- Frames on a stream that is closed, and stays so.
-use Rattle.std.proofs.Common.{◌≡◌, ℕ, ◌≤◌, ◌==◌, Bool, true, false, List, ◌∷◌, filter, Option, None, Some, refl, sym, ap, subst, ◌∙◌, arith, true≢false, if◌then◌else◌}
+use Rattle.std.proofs.Common.{◌≡◌, ℕ, ◌≤◌, ◌==◌, Bool, false, List, ◌∷◌, filter, Option, sym, ap, subst, ◌∙◌, arith}
 use Rattle.std.specs.Map.{keys_of}
 use Rattle.h2_frames.specs.declared.frame.Frame.{Frame}
-use Rattle.h2_streams.specs.declared.stream.Stream.{Stream}
 use Rattle.h2_streams.specs.Book.{Book, find}
 use Rattle.h2_answers.specs.Waiting.{Waiting, waiting_on}
 use Rattle.h2_conn.specs.Record.{Record, In}
@@ -11,10 +10,12 @@ use Rattle.h2_conn.specs.Ids.{last_of, begun_of}
 use Rattle.h2_conn.specs.Live.{Reset, remembered_in, entry_of}
 use Rattle.h2_conn.specs.Resets.{reset_by, with_reset, resets_of, is_live}
 use Rattle.h2_conn.specs.Fresh.{is_on}
-use Rattle.h2_conn.specs.Stands.{WaitsBy, WaitsClosed, StreamsStand}
+use Rattle.h2_conn.specs.Stands.{StreamsStand}
+use Rattle.h2_conn.specs.Waits.{WaitsBy, WaitsClosed}
 use Rattle.h2_conn.proofs.BoolLemmas.{apart-flip, same-eq, by-test}
 use Rattle.h2_conn.proofs.LiveLemmas.{filter-same}
 use Rattle.h2_conn.proofs.TouchLemmas.{TouchesOne, IsOf, away-of, live-other}
+use Rattle.h2_conn.proofs.CloseLemmas.{found-none}
 
 -- What is known of a frame on a closed stream that was begun.
 pub record OnShut (r : Record) (frame : Frame) (id : ℕ) (x : Option Reset) : Type 0 where
@@ -27,10 +28,6 @@ pub record OnShut (r : Record) (frame : Frame) (id : ℕ) (x : Option Reset) : T
   pub begun : begun_of (In frame ∷ r) ≡ begun_of r
   pub last : last_of (In frame ∷ r) ≡ last_of r
   pub within : id ≤ last_of r
-
-shut-none : (live : Bool) (entry : Stream) → live ≡ false → (if live then Some entry else None) ≡ None
-shut-none true entry e = absurd (true≢false e)
-shut-none false entry e = refl
 
 module _ (streams streams' : Book) (answers answers' : List (ℕ × Waiting)) (r : Record) (frame : Frame) (id : ℕ) (x : Option Reset) (s : StreamsStand streams answers r) (o : OnShut r frame id x) where
   pub touch-shut : streams'.live ≡ streams.live → streams'.last ≡ streams.last → streams'.resets ≡ remembered_in (with_reset (resets_of r) x)
@@ -45,7 +42,7 @@ module _ (streams streams' : Book) (answers answers' : List (ℕ × Waiting)) (r
     rises = omega (arith, o.last);
     within = omega (arith, o.last, o.within);
     remembered = remembered;
-    here = ap (λ live. find (record streams { live = live }) id) same ∙ s.found id ∙ shut-none (is_live r id) (entry_of r id) o.shut ∙ sym (shut-none (is_live (In frame ∷ r) id) (entry_of (In frame ∷ r) id) o.still);
+    here = ap (λ live. find (record streams { live = live }) id) same ∙ s.found id ∙ found-none (is_live r id) (entry_of r id) o.shut ∙ sym (found-none (is_live (In frame ∷ r) id) (entry_of (In frame ∷ r) id) o.still);
     others = λ other differ. ap (λ live. find (record streams { live = live }) other) same;
     keys = ap (λ live. keys_of live) same ∙ s.live ∙ filter-same (is_live r) (is_live (In frame ∷ r)) (begun_of r) stays ∙ ap (filter (is_live (In frame ∷ r))) (sym o.begun);
     waits = subst (λ (live : Bool). WaitsBy live (In frame ∷ r) id (waiting_on answers' id)) (sym o.still) waits;

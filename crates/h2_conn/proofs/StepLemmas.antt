@@ -13,6 +13,7 @@ use Rattle.h2_conn.specs.Faults.{fault_by, first_fault_of}
 use Rattle.h2_conn.specs.Credits.{owed_by, owed_of, kept_by, kept_of, is_free}
 use Rattle.h2_conn.specs.Control.{control_of, answer_to, frame_of, due_after, written_control_of}
 use Rattle.h2_conn.specs.Taking.{settled_control, settled_kept}
+use Rattle.h2_conn.proofs.BoolLemmas.{and-first}
 
 -- no fault before and none by the frame
 pub sound-in : (r : Record) (frame : Frame) → first_fault_of r ≡ None → fault_by r frame ≡ None → first_fault_of (In frame ∷ r) ≡ None
@@ -37,10 +38,6 @@ controls-more written due waiting more same =
 if-owed : (b : Bool) (stream bytes : ℕ) (owed : Owed) → (if b then Some (record { stream = stream; bytes = bytes }) else None) ≡ Some owed → (b ≡ true) × (stream ≡ owed.stream)
 if-owed true stream bytes owed e = (refl, cc)
 if-owed false stream bytes owed e = absurd (cc)
-
-and-first : (a b : Bool) → (a && b) ≡ true → a ≡ true
-and-first true b e = refl
-and-first false b e = e
 
 owed_by-open : (r : Record) (frame : Frame) (owed : Owed) → owed_by r frame ≡ Some owed → is_open r owed.stream ≡ true
 owed_by-open r (frames.Body stream false bytes counted) owed e =
@@ -94,7 +91,7 @@ pub settled_kept-closed : (r : Record) (id : ℕ) → is_open r id ≡ false →
 settled_kept-closed r id shut = ap (λ kept. kept + kept_by r (owed_of r) id) (kept-closed r id shut) ∙ ap (λ by. 0 + by) (kept_by-closed r (owed_of r) id refl shut)
 
 -- the kept credit of a stream that a frame leaves as it was
-keep-by : (b now : Bool) (kept : ℕ) → now ≡ b → (b ≡ false → kept ≡ 0) → (if now then kept else 0) ≡ kept
+pub keep-by : (b now : Bool) (kept : ℕ) → now ≡ b → (b ≡ false → kept ≡ 0) → (if now then kept else 0) ≡ kept
 keep-by true now kept same none = ap (λ b. if b then kept else 0) same
 keep-by false now kept same none = ap (λ b. if b then kept else 0) same ∙ sym (none refl)
 

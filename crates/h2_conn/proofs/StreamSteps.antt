@@ -20,7 +20,8 @@ use Rattle.h2_conn.specs.Credits.{kept_of, owed_of}
 use Rattle.h2_conn.specs.Control.{answer_to, frame_of, written_control_of}
 use Rattle.h2_conn.specs.Kept.{kept_on, KeptOnly}
 use Rattle.h2_conn.specs.Held.{Held}
-use Rattle.h2_conn.specs.Stands.{WaitsBy, WaitsClosed, StreamsStand, OpenStands}
+use Rattle.h2_conn.specs.Stands.{StreamsStand, OpenStands}
+use Rattle.h2_conn.specs.Waits.{WaitsBy, WaitsClosed}
 use Rattle.h2_conn.specs.Taking.{Settled, settled_kept, early_of, late_fault, Takes}
 use Rattle.h2_conn.proofs.BoolLemmas.{or-second, lt-false, by-test, same-eq}
 use Rattle.h2_conn.proofs.FaultLemmas.{reset-begun}

@@ -14,7 +14,8 @@ use Rattle.h2_conn.specs.Resets.{reset_by, with_reset, resets_of, is_live, is_op
 use Rattle.h2_conn.specs.Replies.{unwritten_of, replies_of}
 use Rattle.h2_conn.specs.Texts.{codes_on}
 use Rattle.h2_conn.specs.Fresh.{is_on, is_spoken}
-use Rattle.h2_conn.specs.Stands.{WaitsBy, StreamsStand}
+use Rattle.h2_conn.specs.Stands.{StreamsStand}
+use Rattle.h2_conn.specs.Waits.{WaitsBy}
 use Rattle.h2_conn.proofs.BoolLemmas.{or-none, apart-above, apart-flip, same-eq, by-test}
 use Rattle.h2_conn.proofs.QuietLemmas.{waits-in}
 
@@ -61,16 +62,20 @@ apart other (frames.Goaway last code) off = record { opens = refl; ends = refl; 
 apart other (frames.Continuation stream whole fragment) off = record { opens = refl; ends = refl; cancels = refl; increments = λ sum. refl; payloads = λ sum. refl }
 apart other (frames.Unknown kind stream) off = record { opens = refl; ends = refl; cancels = refl; increments = λ sum. refl; payloads = λ sum. refl }
 
+pub finishes-off : (id : ℕ) (frame : Frame) → is_on id frame ≡ false → finishes id frame ≡ false
+finishes-off id (frames.Headers stream end whole fragment) off = and-none end (id == stream) off
+finishes-off id frame off = refl
+
 -- a reset that isn't of the id
 abbrev pub IsAway : Option Reset → ℕ → Type 0
 IsAway None other = Unit {0}
 IsAway (Some reset) other = (other == reset.stream) ≡ false
 
-is_reset-away : (x : Option Reset) (resets : List Reset) (other : ℕ) → IsAway x other → is_reset (with_reset resets x) other ≡ is_reset resets other
+pub is_reset-away : (x : Option Reset) (resets : List Reset) (other : ℕ) → IsAway x other → is_reset (with_reset resets x) other ≡ is_reset resets other
 is_reset-away None resets other away = refl
 is_reset-away (Some reset) resets other away = ap (λ b. b || is_reset resets other) away
 
-codes-away : (x : Option Reset) (resets : List Reset) (other : ℕ) → IsAway x other → codes_on (with_reset resets x) other ≡ codes_on resets other
+pub codes-away : (x : Option Reset) (resets : List Reset) (other : ℕ) → IsAway x other → codes_on (with_reset resets x) other ≡ codes_on resets other
 codes-away None resets other away = refl
 codes-away (Some reset) resets other away = ap (λ b. if b then codes_on resets other ++ reset.code ∷ [] else codes_on resets other) away
 

@@ -1,5 +1,5 @@
 -- How many replies wait, by the record.
-use Rattle.std.proofs.Common.{◌≡◌, ℕ, nat_lt, Bool, true, false, List, [], ◌∷◌, ◌++◌, map, length, Option, None, Some, refl, sym, ap, ◌∙◌, true≢false, if◌then◌else◌}
+use Rattle.std.proofs.Common.{◌≡◌, ℕ, nat_lt, Bool, true, false, List, [], ◌∷◌, ◌++◌, map, length, Option, None, Some, refl, sym, ap, ◌∙◌, append-nil, true≢false, if◌then◌else◌}
 use Rattle.std.specs.Prelude.{option_to_list, ℤ, pos, ◌-ℤ◌, ◌≤ℤ◌}
 use Rattle.std.proofs.Common.{arith, nat_eq, IsSome, IfSome}
 use Rattle.std.specs.Map.{lookup}
@@ -26,9 +26,12 @@ use Rattle.h2_conn.specs.Credits.{owed_of, given_of, is_free, most_waiting}
 use Rattle.h2_conn.specs.Control.{control_of, written_control_of, frame_of, due_after}
 use Rattle.h2_conn.specs.Latest.{is_free_on, credit_if, latest_credit}
 use Rattle.h2_conn.specs.Room.{room_in}
+use Rattle.h2_conn.specs.Due.{settled_control_of}
 use Rattle.h2_conn.specs.Held.{Held}
-use Rattle.h2_conn.specs.Stands.{WaitsBy, StreamsStand, OpenStands, FaultStands, StandsBy, Stands}
+use Rattle.h2_conn.specs.Stands.{StreamsStand, OpenStands, FaultStands, StandsBy, Stands}
+use Rattle.h2_conn.specs.Waits.{WaitsBy}
 use Rattle.h2_conn.specs.Within.{IsNearInitial}
+use Rattle.h2_conn.specs.Producing.{waiting_control}
 use Rattle.h2_conn.proofs.StepLemmas.{controls-more}
 use Rattle.h2_conn.proofs.WithinLemmas.{near-found}
 
@@ -65,6 +68,14 @@ credit-of streams answers r (Some owed) s =
 
 pub latest-given : (c : Held) (r : Record) → OpenStands c r → map frame_of (option_to_list (latest_credit c)) ≡ given_of r (owed_of r)
 latest-given c r s = credit-of c.streams c.answers r c.owed s.streams ∙ ap (given_of r) s.owing
+
+-- the control frames that went and those that wait, the latest credit among them, are all that are due
+pub settled-waiting : (c : Held) (r : Record) → OpenStands c r → written_control_of r ++ map frame_of (waiting_control c) ≡ settled_control_of r
+settled-waiting c r s =
+    controls-more (written_control_of r) (control_of r) c.control (option_to_list (latest_credit c)) s.controls
+    ∙ ap (λ given. control_of r ++ given) (latest-given c r s)
+    ∙ sym (append-nil (control_of r ++ given_of r (owed_of r)))
+    ∙ sym (ap (λ earlier. due_after (control_of r) [] r earlier None) s.sound)
 
 -- ---- a connection error by the bytes that came
 

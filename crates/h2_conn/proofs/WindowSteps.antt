@@ -13,8 +13,10 @@ use Rattle.h2_conn.specs.Record.{Record, In, any_in, any_out, sum_in, sum_out}
 use Rattle.h2_conn.specs.Windows.{initial_of, connection_window_of, send_window_of, with_increment, data_out, with_any_data}
 use Rattle.h2_conn.specs.Ids.{last_of}
 use Rattle.h2_conn.specs.Live.{Reset, opens, ends, finishes, cancels, is_reset, is_live_with, is_idle_above, entry_of}
-use Rattle.h2_conn.specs.Resets.{reset_by, with_reset, resets_of, is_live, grant_refusal, first_reset}
-use Rattle.h2_conn.specs.Faults.{fault_by, broken, code_if}
+use Rattle.h2_conn.specs.Resets.{reset_by, with_reset, resets_of, is_live}
+use Rattle.h2_conn.specs.Refusals.{grant_refusal, first_reset}
+use Rattle.h2_conn.specs.Faults.{fault_by}
+use Rattle.h2_conn.specs.Rules.{broken, code_if}
 use Rattle.h2_conn.specs.Events.{event_by}
 use Rattle.h2_answers.specs.Replies.{drop_bytes}
 use Rattle.h2_conn.specs.Replies.{replies_of}
@@ -22,6 +24,7 @@ use Rattle.h2_conn.specs.Kept.{KeptOnly}
 use Rattle.h2_conn.specs.Held.{Held}
 use Rattle.h2_conn.specs.Taking.{Settled, early_of, late_fault, Fails, Takes, Refuses}
 use Rattle.h2_conn.proofs.BoolLemmas.{and-false, same-self, by-test}
+use Rattle.h2_conn.proofs.OptionLemmas.{or-nothing}
 use Rattle.h2_conn.proofs.FaultLemmas.{window-begun}
 use Rattle.h2_conn.proofs.FaultSplit.{breaks-late}
 use Rattle.h2_conn.proofs.TouchLemmas.{IsOf}
@@ -109,11 +112,7 @@ same-connection r stream add some = λ i. pos (if some i then sum_in (with_incre
 -- on a live stream
 window-live : (r : Record) (stream add : ℕ) (x : Option Reset) → is_live r stream ≡ true → grant_refusal (send_window_of r stream) stream add ≡ x → reset_by (resets_of r) r (frames.Window stream add) ≡ x
 unfolding reset_by
-window-live r stream add x live refused = (λ i. option_or (if live i then grant_refusal (send_window_of r stream) stream add else None) None) ∙ or-nothing x refused
-  where
-    or-nothing : (x : Option Reset) → grant_refusal (send_window_of r stream) stream add ≡ x → option_or (grant_refusal (send_window_of r stream) stream add) None ≡ x
-    or-nothing None e = ap (λ o. option_or o None) e
-    or-nothing (Some reset) e = ap (λ o. option_or o None) e
+window-live r stream add x live refused = (λ i. option_or (if live i then refused i else None) None) ∙ or-nothing x
 
 pub on-window : (r : Record) (stream add : ℕ) (x : Option Reset) → is_live r stream ≡ true → reset_by (resets_of r) r (frames.Window stream add) ≡ x → IsOf x stream → OnLive r (frames.Window stream add) stream x
 on-window r stream add x live made of = record { live = live; made = made; of = of; on = λ other off. off; steady = refl; begun = refl; last = refl }

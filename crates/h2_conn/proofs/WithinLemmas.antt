@@ -9,9 +9,10 @@ use Rattle.h2_streams.specs.Calls.{Grants}
 use Rattle.h2_conn.specs.declared.block.OpenBlock.{OpenBlock}
 use Rattle.h2_conn.specs.declared.block.Owed.{Owed}
 use Rattle.h2_conn.specs.declared.control.Control.{Control}
-use Rattle.h2_conn.specs.Faults.{most_flood, pairs_code}
+use Rattle.h2_conn.specs.Faults.{most_flood}
+use Rattle.h2_conn.specs.Rules.{pairs_code}
 use Rattle.h2_conn.specs.Within.{IsWithin, IsNearInitial, IsSmallOwed, FitsFrame}
-use Rattle.h2_conn.specs.Taking.{owed_if}
+use Rattle.h2_conn.specs.Counting.{owed_if}
 use Rattle.h2_frames.specs.declared.pairs.Pair.{Pair}
 use Rattle.h2_streams.specs.Shifts.{shifted}
 use Rattle.h2_conn.specs.Windows.{initial_after}

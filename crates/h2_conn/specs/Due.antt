@@ -1,12 +1,14 @@
 -- Which frames may be written next.
 use Rattle.std.specs.Prelude.{◌≡◌, ℕ, ◌<◌, ◌≤◌, ◌⊎◌, true, false, Bool, List, [], ◌∷◌, ◌++◌, length, None, pos, ◌≤ℤ◌, if◌then◌else◌}
 use Rattle.h2_frames.specs.Header.{max_frame_size}
+use Rattle.h2_frames.specs.Spelling.{frame_len}
 use Rattle.h2_frames.specs.declared.frame.Frame.{Frame}
 use Rattle.h2_frames.specs.declared.frame.Frame.TheVariants as frames
 use Rattle.h2_conn.specs.Record.{Record, any_out}
 use Rattle.h2_conn.specs.Windows.{send_window_of, connection_window_of}
 use Rattle.h2_conn.specs.Resets.{is_live, resets_of}
-use Rattle.h2_conn.specs.Faults.{first_fault_of, is_settings}
+use Rattle.h2_conn.specs.Faults.{first_fault_of}
+use Rattle.h2_conn.specs.Rules.{is_settings}
 use Rattle.h2_conn.specs.Control.{control_of, written_control_of, due_after}
 use Rattle.h2_conn.specs.Texts.{Token, given_text, written_text, frame_text, has_headed, codes_on, written_codes}
 
@@ -54,6 +56,12 @@ pub record IsDueData (r : Record) (id : ℕ) (ended : Bool) (bytes : List ℕ) (
   pub unpadded : counted ≡ length bytes
   pub stream : pos (length bytes) ≤ℤ send_window_of r id
   pub connection : pos (length bytes) ≤ℤ connection_window_of r
+
+-- DATA carry as much as a frame, the room, both windows and what waits let them.
+abbrev pub IsLongest : Record → (room : ℕ) → Frame → Type 0
+IsLongest r room (frames.Body stream ended bytes counted) =
+    (more : List ℕ) → length bytes < length more → IsDueData r stream false more (length more) → room < frame_len (frames.Body stream false more (length more))
+IsLongest r room _ = Unit {0}
 
 -- the next reset of the server's on a closed stream
 pub record IsNextCode (r : Record) (id code : ℕ) : Type 0 where

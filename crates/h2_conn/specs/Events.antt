@@ -14,7 +14,8 @@ use Rattle.h2_conn.specs.Record.{Record}
 use Rattle.h2_conn.specs.Blocks.{whole_block, reading_of}
 use Rattle.h2_conn.specs.Faults.{fault_by, first_fault_of}
 use Rattle.h2_conn.specs.Live.{Reset}
-use Rattle.h2_conn.specs.Resets.{reset_by, resets_of, is_live, is_served}
+use Rattle.h2_conn.specs.Resets.{reset_by, resets_of, is_live}
+use Rattle.h2_conn.specs.Refusals.{is_served}
 
 -- A whole block of a live stream: the request, or the trailers that end it. They aren't malformed here.
 abbrev pub block_event : OpenBlock → List Field → Event

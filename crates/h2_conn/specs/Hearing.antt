@@ -10,7 +10,7 @@ use Rattle.h2_conn.specs.declared.hearing.Heard.{Heard}
 use Rattle.h2_conn.specs.declared.hearing.Heard.TheVariants as heard
 use Rattle.h2_conn.specs.Record.{Record}
 use Rattle.h2_conn.specs.Blocks.{whole_block, reading_of}
-use Rattle.h2_conn.specs.Resets.{is_malformed_block, malformed_reading}
+use Rattle.h2_conn.specs.Refusals.{is_malformed_block, malformed_reading}
 use Rattle.h2_conn.specs.Events.{block_event, read_event}
 
 -- a block with these fields

@@ -4,7 +4,9 @@ pub mod Windows
 pub mod Ids
 pub mod Blocks
 pub mod Live
+pub mod Refusals
 pub mod Resets
+pub mod Rules
 pub mod Faults
 pub mod Replies
 pub mod Credits
@@ -20,8 +22,13 @@ pub mod Payload
 pub mod Hearing
 pub mod Trailing
 pub mod Held
+pub mod Waits
 pub mod Stands
 pub mod Due
 pub mod Taking
+pub mod Counting
 pub mod Room
 pub mod Latest
+pub mod Produces
+pub mod Producing
+pub mod Parts

@@ -1,57 +1,26 @@
 -- A connection stands for a record: what it holds is what the record says.
-use Rattle.std.specs.Prelude.{◌≡◌, ℕ, ◌<◌, Bool, true, false, List, [], ◌∷◌, ◌++◌, map, Option, None, Some}
-use Rattle.std.specs.List.{concat}
+use Rattle.std.specs.Prelude.{◌≡◌, ℕ, ◌<◌, false, List, [], ◌++◌, map, Option, None, Some}
 use Rattle.std.specs.Map.{keys_of}
 use Rattle.hpack_blocks.specs.Answers.{Open}
 use Rattle.h2_frames.specs.declared.fault.H2Fault.{H2Fault}
 use Rattle.h2_streams.specs.Book.{Book, find}
-use Rattle.h2_answers.specs.declared.part.Head.{Head}
-use Rattle.h2_answers.specs.Waiting.{Waiting, nothing, waiting_on}
+use Rattle.h2_answers.specs.Waiting.{Waiting, waiting_on}
 use Rattle.h2_frames.specs.declared.frame.Frame.{Frame}
 use Rattle.h2_conn.specs.declared.block.Owed.{Owed}
-use Rattle.h2_conn.specs.Record.{Record, any_in, any_out, has_begun}
+use Rattle.h2_conn.specs.Record.{Record, has_begun}
 use Rattle.h2_conn.specs.Windows.{initial_of, connection_window_of}
 use Rattle.h2_conn.specs.Ids.{last_of}
 use Rattle.h2_conn.specs.Blocks.{open_of, table_of}
-use Rattle.h2_conn.specs.Live.{ends, finishes, is_reset, remembered_in}
+use Rattle.h2_conn.specs.Live.{is_reset, remembered_in}
 use Rattle.h2_conn.specs.Resets.{resets_of, is_live, stream_of, live_of}
 use Rattle.h2_conn.specs.Faults.{first_fault_of, flood_of}
-use Rattle.h2_conn.specs.Replies.{unwritten_of}
 use Rattle.h2_conn.specs.Credits.{owed_of, kept_of}
 use Rattle.h2_conn.specs.Control.{control_of, written_control_of, frame_of}
-use Rattle.h2_conn.specs.Texts.{Token, Fields, Octet, Aborted, given_text, written_text, has_headed, codes_on, written_codes}
+use Rattle.h2_conn.specs.Texts.{has_headed}
 use Rattle.h2_conn.specs.Fresh.{is_spoken}
 use Rattle.h2_conn.specs.Kept.{kept_on}
 use Rattle.h2_conn.specs.Held.{Held}
-
--- the text of what waits on a live stream
-abbrev pub head_text : Option Head → List Token
-head_text None = []
-head_text (Some head) = Fields head.end head.block ∷ []
-
-abbrev pub tail_text : Option (List ℕ) → List Token
-tail_text None = []
-tail_text (Some block) = Fields true block ∷ []
-
-abbrev pub waiting_text : Waiting → List Token
-waiting_text waiting = head_text waiting.head ++ map Octet (concat waiting.replies) ++ tail_text waiting.tail ++ map Aborted waiting.resets
-
--- On a live stream what went and what waits is what was given, no reset went, and the answer isn't whole before the
--- client has ended.
-pub record WaitsLive (r : Record) (id : ℕ) (waiting : Waiting) : Type 0 where
-  pub unreset : written_codes r id ≡ []
-  pub unfinished : any_in (ends id) r ≡ false → any_out (finishes id) r ≡ false
-  pub text : written_text r id ++ waiting_text waiting ≡ given_text r id
-  pub replies : waiting.replies ≡ unwritten_of r id
-
--- On any other nothing waits but resets, and those that went and those that wait are those due.
-pub record WaitsClosed (r : Record) (id : ℕ) (waiting : Waiting) : Type 0 where
-  pub text : waiting ≡ record nothing { resets = waiting.resets }
-  pub resets : written_codes r id ++ waiting.resets ≡ codes_on (resets_of r) id
-
-abbrev pub WaitsBy : Bool → Record → ℕ → Waiting → Type 0
-WaitsBy true r id waiting = WaitsLive r id waiting
-WaitsBy false r id waiting = WaitsClosed r id waiting
+use Rattle.h2_conn.specs.Waits.{WaitsBy}
 
 -- the streams, and what waits on them
 pub record StreamsStand (streams : Book) (answers : List (ℕ × Waiting)) (r : Record) : Type 0 where

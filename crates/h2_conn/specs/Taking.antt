@@ -1,35 +1,29 @@
 -- The steps between a frame's coming and the connection that has it.
-use Rattle.std.specs.Prelude.{◌≡◌, ℕ, ◌+◌, ◌==◌, Bool, true, List, [], ◌∷◌, ◌++◌, map, Option, None, Some, option_to_list, if◌then◌else◌}
+use Rattle.std.specs.Prelude.{◌≡◌, ℕ, ◌+◌, Bool, true, List, [], ◌∷◌, ◌++◌, map, Option, None, Some, option_to_list}
 use Rattle.h2_frames.specs.declared.frame.Frame.{Frame}
 use Rattle.h2_frames.specs.declared.frame.Frame.TheVariants as frames
 use Rattle.h2_frames.specs.declared.pairs.Pair.{Pair}
 use Rattle.h2_frames.specs.declared.fault.H2Fault.{H2Fault}
 use Rattle.h2_conn.specs.declared.block.OpenBlock.{OpenBlock}
 use Rattle.h2_conn.specs.declared.event.Event.{Event}
-use Rattle.h2_conn.specs.declared.block.Owed.{Owed}
-use Rattle.h2_conn.specs.declared.control.Control.{Control}
-use Rattle.h2_conn.specs.declared.control.Control.TheVariants as control
 use Rattle.h2_conn.specs.declared.taken.Taken.{Taken}
 use Rattle.h2_conn.specs.declared.taken.Taken.TheVariants as taken
-use Rattle.h2_conn.specs.Codes.{protocol_error, stream_closed}
+use Rattle.h2_conn.specs.Codes.{protocol_error}
 use Rattle.h2_conn.specs.Record.{Record, In}
-use Rattle.h2_conn.specs.Windows.{initial_of, connection_window_of}
+use Rattle.h2_conn.specs.Windows.{connection_window_of}
 use Rattle.h2_conn.specs.Ids.{last_of}
 use Rattle.h2_conn.specs.Resets.{reset_by, resets_of}
-use Rattle.h2_conn.specs.Faults.{fault_by, first_fault_of, broken, code_if, first_broken, preface_code, is_outside, settings_code, even_code, idle_code, zero_code, grant_code, shift_code, block_code, size_code, flood_code, flood_of}
-use Rattle.h2_conn.specs.Blocks.{open_of, table_of, whole_block, block_with}
-use Rattle.hpack_blocks.specs.Answers.{Open}
+use Rattle.h2_conn.specs.Faults.{fault_by, flood_code, flood_of}
+use Rattle.h2_conn.specs.Rules.{broken, code_if, first_broken, preface_code, is_outside, settings_code, even_code, idle_code, zero_code, grant_code, shift_code, block_code, size_code}
+use Rattle.h2_conn.specs.Blocks.{whole_block, block_with}
 use Rattle.h2_conn.specs.Credits.{owed_of, given_of, kept_of, kept_by}
 use Rattle.h2_conn.specs.Control.{control_of, written_control_of, frame_of}
 use Rattle.h2_conn.specs.Events.{event_by, events_of}
 use Rattle.h2_streams.specs.Book.{without_reset}
-use Rattle.h2_answers.specs.Waiting.{nothing, with_reset, waiting_on, ChangesOnly}
-use Rattle.h2_conn.specs.declared.hearing.Heard.{Heard}
-use Rattle.h2_conn.specs.Hearing.{Tells}
-use Rattle.h2_conn.specs.Kept.{kept_on, KeptOnly}
-use Rattle.h2_conn.specs.Texts.{has_headed}
+use Rattle.h2_answers.specs.Waiting.{nothing, ChangesOnly}
+use Rattle.h2_conn.specs.Kept.{KeptOnly}
 use Rattle.h2_conn.specs.Held.{Held}
-use Rattle.h2_conn.specs.Stands.{StreamsStand, StandsFor, OpenStands, StandsBy}
+use Rattle.h2_conn.specs.Stands.{StandsFor, OpenStands, StandsBy}
 
 -- the control frames due when the next frame comes
 abbrev pub settled_control : Record → List Frame
@@ -103,61 +97,6 @@ pub record Refuses (old : Held) (id code : ℕ) (new : Held) : Type 0 where
   pub kept : KeptOnly old.kept new.kept id 0
   pub answers : ChangesOnly old.answers new.answers id (record nothing { resets = code ∷ [] })
   pub rest : new ≡ record old { streams = new.streams; kept = new.kept; answers = new.answers }
-
--- the credit that a payload gives the connection
-abbrev pub payload_credit : (counted : ℕ) → List Control
-payload_credit counted = if counted == 0 then [] else control.Credit 0 counted ∷ []
-
--- A connection that has counted a frame, which breaks no rule, and has queued what it answers, but hasn't yet seen to
--- its stream.
-pub record Counted (c : Held) (r : Record) (frame : Frame) : Type 0 where
-  pub sound : first_fault_of r ≡ None
-  pub breaks : fault_by r frame ≡ None
-  pub begun : c.has_begun ≡ true
-  pub window : c.window ≡ connection_window_of r
-  pub initial : c.initial ≡ initial_of r
-  pub streams : StreamsStand c.streams c.answers r
-  pub controls : written_control_of r ++ map frame_of c.control ≡ control_of (In frame ∷ r)
-  pub keeping : (id : ℕ) → kept_on c.kept id ≡ settled_kept r id
-  pub flood : c.flood ≡ flood_of (In frame ∷ r)
-  pub headed : c.has_headed ≡ has_headed r
-
--- What a frame does to the streams, where DATA speak of no header block.
-pub record CountedBody (c : Held) (r : Record) (frame : Frame) : Type 0 where
-  pub counted : Counted c r frame
-  pub owing : c.owed ≡ None
-  pub block : c.block ≡ open_of r
-  pub table : c.decoder ≡ Open (table_of r)
-
-abbrev pub Serving : (old : Held) → Frame → Taken → (new : Held) → Type 0
-Serving old frame taken new = (r : Record) → CountedBody old r frame → Took r frame taken new
-
--- the credit that taken DATA give the stream
-abbrev pub owed_if : (stream counted : ℕ) → Option Owed
-owed_if stream counted = if counted == 0 then None else Some (record { stream = stream; bytes = counted })
-
--- The same of a frame that begins or goes on with a header block: the block and the table are behind it already.
-pub record CountedBlock (c : Held) (r : Record) (frame : Frame) : Type 0 where
-  pub counted : Counted c r frame
-  pub owing : c.owed ≡ None
-  pub block : c.block ≡ open_of (In frame ∷ r)
-  pub table : c.decoder ≡ Open (table_of (In frame ∷ r))
-
--- what HEADERS do to the streams, given what their block tells
-abbrev pub Heading : (old : Held) (stream : ℕ) (ended : Bool) → Option Heard → Taken → (new : Held) → Type 0
-Heading old stream ended heard taken new = (r : Record) (whole : Bool) (fragment : List ℕ) → CountedBlock old r (frames.Headers stream ended whole fragment)
-    → Tells r (frames.Headers stream ended whole fragment) heard → Took r (frames.Headers stream ended whole fragment) taken new
-
--- The server resets a stream that was closed before.
-pub record RefusesLate (old : Held) (id : ℕ) (new : Held) : Type 0 where
-  pub answers : ChangesOnly old.answers new.answers id (with_reset (waiting_on old.answers id) stream_closed)
-  pub rest : new ≡ record old { answers = new.answers }
-
--- what CONTINUATION does that makes a block whole, given what that tells
-abbrev pub Going : (old : Held) (stream : ℕ) (is_late : Bool) → Heard → Taken → (new : Held) → Type 0
-Going old stream is_late heard taken new = (r : Record) (fragment : List ℕ) (block : OpenBlock) → CountedBlock old r (frames.Continuation stream true fragment)
-    → Tells r (frames.Continuation stream true fragment) (Some heard) → whole_block r (frames.Continuation stream true fragment) ≡ Some block → block.stream ≡ stream → block.is_late ≡ is_late
-    → Took r (frames.Continuation stream true fragment) taken new
 
 -- what a frame does to a connection that met no error before
 pub record Follows (r : Record) (frame : Frame) (event : Option Event) (c : Held) : Type 0 where

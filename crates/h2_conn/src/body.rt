@@ -8,7 +8,8 @@ ghost use Rattle.h2_frames.specs.declared.frame.Frame.TheVariants as frames;
 ghost use Rattle.h2_streams.specs.Book.{state_in};
 ghost use Rattle.h2_conn.specs.Live.{is_idle_above};
 ghost use Rattle.h2_conn.specs.Within.{FitsFrame};
-ghost use Rattle.h2_conn.specs.Taking.{early_of, payload_credit, owed_if, Taking, Serving};
+ghost use Rattle.h2_conn.specs.Counting.{payload_credit, owed_if, Serving};
+ghost use Rattle.h2_conn.specs.Taking.{early_of, Taking};
 
 use crate::block::Owed;
 use crate::codes::{FLOW_CONTROL_ERROR, STREAM_CLOSED};

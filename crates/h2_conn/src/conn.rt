@@ -57,7 +57,8 @@ impl Model for Conn {
 impl Conn {
     /// A connection on which nothing happened. The server's SETTINGS wait.
     pub fn new(alloc: Global) -> Result<Conn, Memory>
-        ensures { IfOk result (λ conn. Stands conn []) }
+        ensures stands { IfOk result (λ conn. Stands conn []) }
+        ensures written { IfOk result (λ conn. conn.unwritten ≡ 0) }
     {
         let mut control = VecDeque::new(alloc);
         control.push_back(Control::Settings)?;

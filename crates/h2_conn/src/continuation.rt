@@ -5,8 +5,9 @@ ghost use Rattle.h2_frames.specs.Sound.{IsStreamId};
 ghost use Rattle.h2_frames.specs.Header.{max_frame_size};
 ghost use Rattle.h2_frames.specs.declared.frame.Frame.TheVariants as frames;
 ghost use Rattle.h2_conn.specs.Blocks.{continued};
-ghost use Rattle.h2_conn.specs.Faults.{is_large};
-ghost use Rattle.h2_conn.specs.Taking.{early_of, Taking, Going};
+ghost use Rattle.h2_conn.specs.Rules.{is_large};
+ghost use Rattle.h2_conn.specs.Counting.{Going};
+ghost use Rattle.h2_conn.specs.Taking.{early_of, Taking};
 
 use crate::block::OpenBlock;
 use crate::codes::{COMPRESSION_ERROR, ENHANCE_YOUR_CALM, PROTOCOL_ERROR};
@@ -22,6 +23,12 @@ use std::alloc::Global;
 const MOST_BYTES: usize = 65_536;
 
 const MOST_CONTINUATIONS: u32 = 64;
+
+/// A header block of too many bytes or frames (RFC 9113 section 10.5.1).
+const TOO_LARGE: H2Fault = H2Fault {
+    code: ENHANCE_YOUR_CALM,
+    rule: 16,
+};
 
 // The block with a fragment more.
 fn continued(block: OpenBlock, fragment: &[u8]) -> Result<OpenBlock, Memory>
@@ -66,10 +73,7 @@ impl Conn {
         self.has_begun = true;
         if !whole {
             if is_large(&block) {
-                return Ok(Taken::Breaks(H2Fault {
-                    code: ENHANCE_YOUR_CALM,
-                    rule: 16,
-                }));
+                return Ok(Taken::Breaks(TOO_LARGE));
             }
             self.block = Some(block);
             return Ok(Taken::Passes);
@@ -81,10 +85,7 @@ impl Conn {
             }));
         };
         if is_large(&block) {
-            return Ok(Taken::Breaks(H2Fault {
-                code: ENHANCE_YOUR_CALM,
-                rule: 16,
-            }));
+            return Ok(Taken::Breaks(TOO_LARGE));
         }
         let taken = self.serve_block(alloc, stream, block.is_late, heard)?;
         Ok(taken)

@@ -2,11 +2,12 @@
 
 ghost use Rattle.std.specs.Prelude.{◌≡◌, None, IfOk};
 ghost use Rattle.h2_frames.specs.Sound.{IsFrame};
+ghost use Rattle.h2_frames.specs.declared.frame.Frame.TheVariants as frames;
 ghost use Rattle.h2_conn.specs.Taking.{early_of, Taking};
 
 use crate::conn::Conn;
 use crate::taken::Taken;
-use h2_frames::Frame;
+use h2_frames::{Frame, Pairs};
 use outside::Memory;
 use std::alloc::Global;
 
@@ -23,53 +24,60 @@ impl Conn {
                 end,
                 bytes,
                 counted,
-            } => {
-                let taken = self.take_body(alloc, stream, end, bytes, counted)?;
-                Ok(taken)
-            }
+            } => self.take_body(alloc, stream, end, bytes, counted),
             Frame::Headers {
                 stream,
                 end,
                 whole,
                 block,
-            } => {
-                let taken = self.take_headers(alloc, stream, end, whole, block)?;
-                Ok(taken)
-            }
+            } => self.take_headers(alloc, stream, end, whole, block),
             Frame::Priority { stream } => Ok(self.pass(&Frame::Priority { stream })),
             Frame::Reset { stream, code } => Ok(self.take_reset(stream, code)),
-            Frame::Settings { ack, pairs } => {
-                if ack {
-                    return Ok(self.pass(&Frame::Settings { ack, pairs }));
-                }
-                let taken = self.take_settings(pairs.items())?;
-                Ok(taken)
-            }
+            Frame::Settings { ack, pairs } => self.serve_settings(ack, pairs),
             Frame::Push { stream: _ } => unreachable!(),
-            Frame::Ping { ack, octets } => {
-                if ack {
-                    return Ok(self.pass(&Frame::Ping { ack, octets }));
-                }
-                let taken = self.take_ping(octets)?;
-                Ok(taken)
-            }
+            Frame::Ping { ack, octets } => self.serve_ping(ack, octets),
             Frame::Goaway { last, code } => Ok(self.pass(&Frame::Goaway { last, code })),
-            Frame::Window { stream, add } => {
-                if stream == 0 {
-                    return Ok(self.take_connection_window(add));
-                }
-                let taken = self.take_stream_window(alloc, stream, add)?;
-                Ok(taken)
-            }
+            Frame::Window { stream, add } => self.serve_window(alloc, stream, add),
             Frame::Continuation {
                 stream,
                 whole,
                 block,
-            } => {
-                let taken = self.take_continuation(alloc, stream, whole, block)?;
-                Ok(taken)
-            }
+            } => self.take_continuation(alloc, stream, whole, block),
             Frame::Unknown { kind, stream } => Ok(self.pass(&Frame::Unknown { kind, stream })),
         }
+    }
+
+    // SETTINGS; with ACK they are passed over.
+    fn serve_settings(&mut self, ack: bool, pairs: Pairs) -> Result<Taken, Memory>
+        requires { early_of self.old (frames.Settings ack pairs) ≡ None }
+        ensures { IfOk result (λ taken. Taking self.old (frames.Settings ack pairs) taken self.new) }
+    {
+        if ack {
+            return Ok(self.pass(&Frame::Settings { ack, pairs }));
+        }
+        self.take_settings(pairs.items())
+    }
+
+    // PING; with ACK it is passed over.
+    fn serve_ping(&mut self, ack: bool, octets: [u8; 8]) -> Result<Taken, Memory>
+        requires { early_of self.old (frames.Ping ack octets) ≡ None }
+        ensures { IfOk result (λ taken. Taking self.old (frames.Ping ack octets) taken self.new) }
+    {
+        if ack {
+            return Ok(self.pass(&Frame::Ping { ack, octets }));
+        }
+        self.take_ping(octets)
+    }
+
+    // WINDOW_UPDATE, of the connection or of a stream.
+    fn serve_window(&mut self, alloc: Global, stream: u32, add: u32) -> Result<Taken, Memory>
+        requires early { early_of self.old (frames.Window stream add) ≡ None }
+        requires frame { IsFrame (frames.Window stream add) }
+        ensures { IfOk result (λ taken. Taking self.old (frames.Window stream add) taken self.new) }
+    {
+        if stream == 0 {
+            return Ok(self.take_connection_window(add));
+        }
+        self.take_stream_window(alloc, stream, add)
     }
 }

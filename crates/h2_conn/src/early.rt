@@ -1,7 +1,7 @@
 //! The rules that a frame is tested by before it changes anything.
 
 ghost use Rattle.std.specs.Prelude.{◌≡◌};
-ghost use Rattle.h2_conn.specs.Faults.{broken, code_if, is_settings, is_outside, preface_code, pair_code, pairs_code, settings_code, even_code, idle_code, zero_code};
+ghost use Rattle.h2_conn.specs.Rules.{broken, code_if, is_settings, is_outside, preface_code, pair_code, pairs_code, settings_code, even_code, idle_code, zero_code};
 ghost use Rattle.h2_conn.specs.Live.{is_idle_above};
 ghost use Rattle.h2_conn.specs.Taking.{early_of};
 

@@ -61,6 +61,8 @@ impl Conn {
         requires short { length (block_spelling true fields.now) ≤ max_frame_size }
         ensures stands { OnOk result ((r : Record) → Stands self.old r → Stands self.new (Given id (Head fields.now end) ∷ r)) }
         ensures err { OnErr result (self.new ≡ self.old) }
+        ensures written { self.new.unwritten ≡ self.old.unwritten }
+        ensures lost { self.new.is_lost ≡ self.old.is_lost }
     {
         if self.fault.is_some() {
             return Ok(());
@@ -77,6 +79,8 @@ impl Conn {
         requires open { IsOpenEnded (waiting_on self.old.answers id) }
         ensures stands { OnOk result ((r : Record) → Stands self.old r → Stands self.new (Given id (Reply message) ∷ r)) }
         ensures err { OnErr result (self.new ≡ self.old) }
+        ensures written { self.new.unwritten ≡ self.old.unwritten }
+        ensures lost { self.new.is_lost ≡ self.old.is_lost }
     {
         if self.fault.is_some() {
             return Ok(());
@@ -93,6 +97,8 @@ impl Conn {
         requires short { length (block_spelling true fields.now) ≤ max_frame_size }
         ensures stands { OnOk result ((r : Record) → Stands self.old r → Stands self.new (Given id (Tail fields.now) ∷ r)) }
         ensures err { OnErr result (self.new ≡ self.old) }
+        ensures written { self.new.unwritten ≡ self.old.unwritten }
+        ensures lost { self.new.is_lost ≡ self.old.is_lost }
     {
         if self.fault.is_some() {
             return Ok(());
@@ -109,6 +115,8 @@ impl Conn {
         requires open { IsOpenEnded (waiting_on self.old.answers id) }
         ensures stands { OnOk result ((r : Record) → Stands self.old r → Stands self.new (Given id (Abort code) ∷ r)) }
         ensures err { OnErr result (self.new ≡ self.old) }
+        ensures written { self.new.unwritten ≡ self.old.unwritten }
+        ensures lost { self.new.is_lost ≡ self.old.is_lost }
     {
         if self.fault.is_some() {
             return Ok(());
@@ -162,7 +170,9 @@ impl Conn {
 
     /// The latest frame made a request whole. The count of frames that ask for nothing starts anew.
     pub fn request_whole(&mut self)
-        ensures { (r : Record) → Stands self.old r → Stands self.new (Whole ∷ r) }
+        ensures stands { (r : Record) → Stands self.old r → Stands self.new (Whole ∷ r) }
+        ensures written { self.new.unwritten ≡ self.old.unwritten }
+        ensures lost { self.new.is_lost ≡ self.old.is_lost }
     {
         self.flood = 0;
     }
@@ -173,6 +183,8 @@ impl Conn {
     pub fn fault(&mut self, _alloc: Global, fault: H2Fault) -> Result<(), Memory>
         ensures stands { OnOk result ((r : Record) → Stands self.old r → Stands self.new (Broken fault ∷ r)) }
         ensures err { OnErr result (self.new ≡ self.old) }
+        ensures written { self.new.unwritten ≡ self.old.unwritten }
+        ensures lost { self.new.is_lost ≡ self.old.is_lost }
     {
         if self.fault.is_some() {
             return Ok(());

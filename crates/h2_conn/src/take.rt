@@ -9,6 +9,7 @@ ghost use Rattle.h2_conn.specs.Events.{events_of};
 ghost use Rattle.h2_conn.specs.Faults.{first_fault_of};
 ghost use Rattle.h2_frames.specs.Sound.{IsFrame, IsStreamId};
 ghost use Rattle.h2_streams.specs.Book.{find};
+ghost use Rattle.h2_conn.specs.Producing.{waiting_control};
 ghost use Rattle.h2_conn.specs.Taking.{early_of, IsPassed, Refuses, Settled, Fails, Follows, Taking};
 
 use crate::closing::{cancel_live, reset_live};
@@ -36,6 +37,7 @@ impl Conn {
         ensures events { IfOk result (λ event. (r : Record) → Stands self.old r → option_to_list event ≡ events_of r frame) }
         ensures lost { OnErr result (self.new.is_lost ≡ true) }
         ensures stays_lost { self.old.is_lost ≡ true → OnOk result ⊥ }
+        ensures written { self.new.unwritten ≡ self.old.unwritten }
     {
         if self.is_lost {
             return Err(Memory);
@@ -43,7 +45,11 @@ impl Conn {
         if self.fault.is_some() {
             return Ok(None);
         }
-        match self.take_open(alloc, frame) {
+        // No step of a frame changes this number. It is put back so that none of their contracts has to say so.
+        let unwritten = self.unwritten;
+        let told = self.take_open(alloc, frame);
+        self.unwritten = unwritten;
+        match told {
             Ok(event) => {
                 self.is_lost = false;
                 Ok(event)
@@ -88,8 +94,9 @@ impl Conn {
     }
 
     // The credit of the latest frame is given or kept.
-    fn settle(&mut self) -> Result<(), Memory>
+    pub(crate) fn settle(&mut self) -> Result<(), Memory>
         ensures stands { OnOk result ((r : Record) → OpenStands self.old r → Settled self.new r) }
+        ensures rest { OnOk result (self.new ≡ record self.old { control = waiting_control self.old; owed = None; kept = self.new.kept }) }
         ensures fault { self.new.fault ≡ self.old.fault }
         ensures lost { self.new.is_lost ≡ self.old.is_lost }
     {

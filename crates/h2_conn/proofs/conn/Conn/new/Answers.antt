@@ -6,8 +6,8 @@ use Rattle.h2_conn.specs.Kept.{kept_on}
 use Rattle.h2_conn.proofs.NewLemmas.{streams-stand}
 use Rattle.h2_conn.proofs.conn.Conn.new.Goals as goal
 
-pub returns : goal.returns
-returns c = let items : c.push_back.new.self.items ≡ control.Settings ∷ [] = c.in_ok-push_back.ensures.items ∙ ap (λ xs. xs ++ control.Settings ∷ []) c.new-control.ensures.items in (
+pub returns-clause-stands : goal.returns-clause-stands
+returns-clause-stands c = let items : c.push_back.new.self.items ≡ control.Settings ∷ [] = c.in_ok-push_back.ensures.items ∙ ap (λ xs. xs ++ control.Settings ∷ []) c.new-control.ensures.items in (
   refl,
   record {
     sound = refl;

@@ -8,7 +8,7 @@ use Rattle.h2_conn.specs.declared.hearing.Heard.TheVariants as heard
 use Rattle.h2_conn.specs.Hearing.{Tells}
 use Rattle.h2_conn.specs.Held.{Held}
 use Rattle.h2_conn.specs.Trailing.{BeginsTo}
-use Rattle.h2_conn.specs.Taking.{CountedBlock}
+use Rattle.h2_conn.specs.Counting.{CountedBlock}
 use Rattle.h2_conn.proofs.StateLemmas.{state-settled, risen-of}
 use Rattle.h2_conn.proofs.HearingLemmas.{Unfinished, Telling}
 use Rattle.h2_conn.proofs.OpenSteps.{takes-open, takes-refused, takes-malformed, there-opened}

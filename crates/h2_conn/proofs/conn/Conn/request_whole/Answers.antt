@@ -5,5 +5,5 @@ use Rattle.h2_conn.specs.Stands.{Stands}
 use Rattle.h2_conn.proofs.GivingLemmas.{stands-whole}
 use Rattle.h2_conn.proofs.conn.Conn.request_whole.Goals as goal
 
-pub returns : goal.returns
-returns c = λ r s. stands-whole _ r (subst (λ (h : Held). Stands h r) (sym c.self.view_is) s)
+pub returns-clause-stands : goal.returns-clause-stands
+returns-clause-stands c = λ r s. stands-whole _ r (subst (λ (h : Held). Stands h r) (sym c.self.view_is) s)

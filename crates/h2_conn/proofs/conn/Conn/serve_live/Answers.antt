@@ -3,7 +3,7 @@ use Rattle.std.proofs.Common.{sym, ap, subst, ◌∙◌}
 use Rattle.h2_frames.specs.declared.frame.Frame.TheVariants as frames
 use Rattle.h2_streams.specs.Book.{state_in}
 use Rattle.h2_conn.specs.Held.{Held}
-use Rattle.h2_conn.specs.Taking.{CountedBody}
+use Rattle.h2_conn.specs.Counting.{CountedBody}
 use Rattle.h2_conn.proofs.WithinLemmas.{within-streams, owed-small}
 use Rattle.h2_conn.proofs.StateLemmas.{state-settled}
 use Rattle.h2_conn.proofs.BodySteps.{takes-body-over, takes-body-ended, takes-body-going}

@@ -5,7 +5,7 @@ use Rattle.h2_frames.specs.declared.frame.Frame.TheVariants as frames
 use Rattle.h2_conn.specs.declared.block.OpenBlock.{OpenBlock}
 use Rattle.h2_conn.specs.declared.hearing.Heard.{Heard}
 use Rattle.h2_conn.specs.Blocks.{continued, table_of, reading_of}
-use Rattle.h2_conn.specs.Faults.{is_large, block_code}
+use Rattle.h2_conn.specs.Rules.{is_large, block_code}
 use Rattle.h2_conn.specs.Hearing.{Hears}
 use Rattle.h2_conn.specs.Held.{Held}
 use Rattle.h2_conn.specs.Taking.{Settled, early_of, Took}

@@ -6,7 +6,7 @@ use Rattle.h2_conn.specs.declared.hearing.Heard.{Heard}
 use Rattle.h2_conn.specs.declared.hearing.Heard.TheVariants as heard
 use Rattle.h2_conn.specs.Hearing.{Tells}
 use Rattle.h2_conn.specs.Held.{Held}
-use Rattle.h2_conn.specs.Taking.{CountedBlock}
+use Rattle.h2_conn.specs.Counting.{CountedBlock}
 use Rattle.h2_conn.proofs.WithinLemmas.{within-streams}
 use Rattle.h2_conn.proofs.StateLemmas.{state-settled}
 use Rattle.h2_conn.proofs.HearingLemmas.{Unfinished, Telling}

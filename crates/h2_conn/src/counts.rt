@@ -1,4 +1,4 @@
-//! Producing the bytes that are written.
+//! What waits to be written, what may be given, and what was written.
 
 ghost use Rattle.std.specs.Prelude.{◌≡◌, ◌==◌, ◌≤◌, ◌<◌, ◌-◌, ◌^◌, ◌-ℤ◌, ◌≤ℤ◌, pos, min, IsSome, None};
 ghost use Rattle.std.specs.Int.{int_min};
