@@ -21,6 +21,3 @@ mod schemas;
 pub use law::one_reading;
 pub use rows::{DatumFault, decode_row, encode_row};
 pub use schemas::schema_text;
-
-#[cfg(test)]
-mod tests;

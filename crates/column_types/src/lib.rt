@@ -29,6 +29,3 @@ pub use ranges::{FIRST_DAY, FIRST_INSTANT, GREATEST_INT64, LAST_DAY, LAST_INSTAN
 pub use row::{Row, fits, fits_column, is_literal, project};
 pub use schema::{MAX_COLUMNS, Schema, SchemaFault};
 pub use truths::Truth;
-
-#[cfg(test)]
-mod tests;

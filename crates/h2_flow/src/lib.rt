@@ -11,6 +11,3 @@ mod window;
 
 pub use laws::sums_are_exact;
 pub use window::{Overflow, Overrun, Window};
-
-#[cfg(test)]
-mod tests;

@@ -18,6 +18,3 @@ pub use h2_flow::Overflow;
 pub use refusals::{BeginRefusal, BodyRefusal};
 pub use stream::{Stream, StreamState};
 pub use streams::Streams;
-
-#[cfg(test)]
-mod tests;

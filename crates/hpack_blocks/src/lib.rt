@@ -18,8 +18,6 @@ mod reading;
 mod sizes;
 mod static_table;
 mod strings;
-#[cfg(test)]
-mod tests;
 mod writing;
 
 pub use decoder::Decoder;

@@ -11,8 +11,6 @@ mod huffman;
 mod ints;
 mod reader;
 mod tables;
-#[cfg(test)]
-mod tests;
 
 pub use faults::{HuffFault, IntFault};
 pub use huffman::{code_is_complete, huffman_decode, huffman_len};

@@ -30,6 +30,3 @@ pub use reading::fields;
 pub use selecting::{all_bytes, has, last_bytes, last_varint, merged, part};
 pub use varints::varint_len;
 pub use writing::Out;
-
-#[cfg(test)]
-mod tests;

@@ -15,6 +15,3 @@ mod rows;
 
 pub use faults::{MAX_FAULTS, RowFault, RowFaults, RowWhy, RowsFault};
 pub use rows::{decode_row, decode_rows};
-
-#[cfg(test)]
-mod tests;

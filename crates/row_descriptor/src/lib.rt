@@ -19,6 +19,3 @@ pub use bound::{Binding, BoundColumn, Source, bind};
 pub use descriptor::Descriptor;
 pub use faults::{BindFault, DescriptorFault};
 pub use field::{DescriptorField, FieldType, MAX_NUMBER};
-
-#[cfg(test)]
-mod tests;

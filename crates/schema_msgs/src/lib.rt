@@ -35,6 +35,3 @@ pub use laws::{
 pub use nested_fields::NestedField;
 pub use schemas::{TableFieldSchema, TableSchema};
 pub use write_streams::{CreateWriteStreamRequest, WriteStream};
-
-#[cfg(test)]
-mod tests;

@@ -18,6 +18,3 @@ mod streams;
 pub use engine::Engine;
 pub use laws::machine_histories_are_legal;
 pub use table_spec::TableSpec;
-
-#[cfg(test)]
-mod tests;

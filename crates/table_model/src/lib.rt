@@ -54,6 +54,3 @@ pub use replies::{
 };
 pub use streams::{Refs, StreamKind, StreamRef, StreamState};
 pub use walks::size_added;
-
-#[cfg(test)]
-mod tests;

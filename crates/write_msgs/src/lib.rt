@@ -48,6 +48,3 @@ pub use stream_calls::{
     GetWriteStreamRequest,
 };
 pub use writing::{put_int, put_text};
-
-#[cfg(test)]
-mod tests;

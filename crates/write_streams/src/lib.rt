@@ -13,6 +13,3 @@ mod book;
 
 pub use book::{StreamBook, StreamFacts};
 pub use table_model::{FinalMove, FlushMove};
-
-#[cfg(test)]
-mod tests;

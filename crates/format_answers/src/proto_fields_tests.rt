@@ -1,6 +1,6 @@
 //! The messages of the Protocol Buffers encoding guide, and one AppendRowsRequest with one row.
 
-use super::*;
+use proto_fields::*;
 use std::test::Fail;
 
 /// Field 1 is 150, field 2 is `testing`.

@@ -1,8 +1,8 @@
 //! AppendRowsRequests and AppendRowsResponses as they are spelled on the wire.
 
-use super::*;
 use outside::Text;
 use std::test::Fail;
+use write_msgs::*;
 
 /// The offset is an empty Int64Value; one row, `08 01`.
 const EMPTY_OFFSET: [u8; 10] = [0x12, 0x00, 0x22, 0x06, 0x12, 0x04, 0x0a, 0x02, 0x08, 0x01];

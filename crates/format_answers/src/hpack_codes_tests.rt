@@ -1,4 +1,4 @@
-use super::{HuffFault, IntFault, huffman_decode, huffman_len, read_int, write_int};
+use hpack_codes::{HuffFault, IntFault, huffman_decode, huffman_len, read_int, write_int};
 use std::test::Fail;
 
 /// The octets 0 to 255 in the codes of RFC 7541, appendix B, spelled by another program.

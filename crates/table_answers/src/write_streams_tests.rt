@@ -1,10 +1,10 @@
 //! One stream of each type, call by call.
 
-use crate::StreamBook;
 use std::test::Fail;
 use table_model::{
     FinalMove, FlushMove, INVALID_STREAM_TYPE, STREAM_ALREADY_COMMITTED, StreamKind, StreamRef,
 };
+use write_streams::StreamBook;
 
 const FIRST: StreamRef = StreamRef::Number(1);
 

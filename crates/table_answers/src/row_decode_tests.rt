@@ -2,9 +2,9 @@
 
 ghost use Rattle.std.specs.Prelude.{◌<◌, ◌^◌, length};
 
-use crate::{RowFault, RowWhy, RowsFault, decode_row, decode_rows};
 use column_types::{Cell, Column, Kind, Mode, Schema};
 use outside::{Blob, Text};
+use row_decode::{RowFault, RowWhy, RowsFault, decode_row, decode_rows};
 use row_descriptor::{Binding, Descriptor, bind};
 use std::alloc::Global;
 use std::test::Fail;

@@ -1,6 +1,6 @@
 //! Each call once, with the numbers of RFC 9113 sections 6.9.1 and 6.9.2.
 
-use super::*;
+use h2_flow::*;
 
 #[test]
 fn a_send_window_falls_below_zero_and_recovers(rt: HostRuntime) {

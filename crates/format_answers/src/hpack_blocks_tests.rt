@@ -1,4 +1,4 @@
-use super::{BlockFault, Decoder, Field, FieldList, write_block};
+use hpack_blocks::{BlockFault, Decoder, Field, FieldList, write_block};
 use outside::Blob;
 use std::process::Abort;
 use std::test::Fail;

@@ -4,11 +4,11 @@ ghost use Rattle.std.specs.Prelude.{[], ◌∷◌};
 ghost use Rattle.column_types.specs.declared.cell.Cell.TheVariants as cell;
 ghost use Rattle.column_types.specs.Row.{Fits};
 
-use crate::{Command, Plain, Refs, Reply, Rows, StreamKind, StreamRef};
 use column_types::{Cell, Column, Kind, Mode, Row, Schema};
 use outside::Text;
 use std::alloc::Global;
 use std::test::Fail;
+use table_model::{Command, Plain, Refs, Reply, Rows, StreamKind, StreamRef};
 
 const FIRST: StreamRef = StreamRef::Number(1);
 

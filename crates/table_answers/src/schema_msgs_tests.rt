@@ -1,8 +1,8 @@
 //! Schemas as they are spelled on the wire.
 
-use super::*;
 use outside::Text;
 use proto_fields::{Out, varint_len};
+use schema_msgs::*;
 use std::alloc::Global;
 use std::test::Fail;
 use write_msgs::MsgFault;
@@ -44,7 +44,7 @@ fn reads_and_writes_a_schema(rt: HostRuntime) -> Result<(), Fail> {
 }
 
 /// One field of depth 0, and one within it.
-#[tactic(auto, unfolding(crate::specs::Outline::Nests))]
+#[tactic(auto, unfolding(schema_msgs::specs::Outline::Nests))]
 fn two_fields(alloc: Global) -> Result<TableFieldSchemas, Fail> {
     let mut nested = Vec::new(alloc);
     nested.push(NestedField {

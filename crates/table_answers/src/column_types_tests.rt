@@ -1,4 +1,4 @@
-use crate::{
+use column_types::{
     Cell, Column, Fields, Kind, Mode, Op, Pred, Row, Schema, SchemaFault, Truth, project, truth,
 };
 use outside::{Memory, Text};

@@ -8,7 +8,7 @@ use Rattle.table_model.specs.declared.streams.StreamRef.TheVariants as stream
 use Rattle.table_model.specs.Streams.{is_one_stream}
 use Rattle.table_model.specs.Checks.{error_at, stream_code}
 use Rattle.write_streams.specs.Book.{Book, find, unused, with_finalised}
-use Rattle.write_streams.proofs.tests.commit_of_two.Goals as goal
+use Rattle.table_answers.proofs.write_streams_tests.commit_of_two.Goals as goal
 
 pub commit-requires : goal.commit-requires
 commit-requires g c =

@@ -1,6 +1,6 @@
 ghost use Rattle.column_types.specs.Fields.{IsMadeFor};
 
-use crate::{DatumFault, decode_row, encode_row, schema_text};
+use avro_rows::{DatumFault, decode_row, encode_row, schema_text};
 use column_types::{Cell, Column, Fields, Kind, Mode, Row, Schema, fits, project};
 use outside::{Blob, Memory, Text};
 use std::alloc::Global;

@@ -2,9 +2,9 @@
 
 ghost use Rattle.std.specs.Prelude.{◌<◌, ◌^◌, length};
 
-use crate::{BindFault, Descriptor, DescriptorFault, FieldType, Source, bind};
 use column_types::{Column, Kind, Mode, Schema};
 use outside::Text;
+use row_descriptor::{BindFault, Descriptor, DescriptorFault, FieldType, Source, bind};
 use std::alloc::Global;
 use std::test::Fail;
 

@@ -1,6 +1,6 @@
 //! Two streams, call by call.
 
-use super::*;
+use h2_streams::*;
 use std::test::Fail;
 
 #[test]

@@ -1,0 +1,326 @@
+//! Frames by the bytes of RFC 9113 section 6, and those that clients and servers exchange over gRPC.
+
+use h2_frames::*;
+use outside::{Blob, Memory};
+use std::alloc::{AllocError, Global};
+use std::process::Abort;
+use std::test::Fail;
+
+/// What a client sends first (RFC 9113 section 3.4).
+const PREFACE: &[u8; 24] = b"PRI * HTTP/2.0\r\n\r\nSM\r\n\r\n";
+
+fn shown_frame(alloc: Global, frame: &Frame) -> Result<String, AllocError> {
+    match frame {
+        Frame::Body {
+            stream,
+            end,
+            bytes,
+            counted,
+        } => format!(in alloc; "DATA {stream} {end} {counted} {:?}", bytes.bytes()),
+        Frame::Headers {
+            stream,
+            end,
+            whole,
+            block,
+        } => format!(in alloc; "HEADERS {stream} {end} {whole} {:?}", block.bytes()),
+        Frame::Priority { stream } => format!(in alloc; "PRIORITY {stream}"),
+        Frame::Reset { stream, code } => format!(in alloc; "RST_STREAM {stream} {code}"),
+        Frame::Settings { ack, pairs } => {
+            format!(in alloc; "SETTINGS {ack} {:?}", pairs.items())
+        }
+        Frame::Push { stream } => format!(in alloc; "PUSH_PROMISE {stream}"),
+        Frame::Ping { ack, octets } => format!(in alloc; "PING {ack} {octets:?}"),
+        Frame::Goaway { last, code } => format!(in alloc; "GOAWAY {last} {code}"),
+        Frame::Window { stream, add } => format!(in alloc; "WINDOW_UPDATE {stream} {add}"),
+        Frame::Continuation {
+            stream,
+            whole,
+            block,
+        } => format!(in alloc; "CONTINUATION {stream} {whole} {:?}", block.bytes()),
+        Frame::Unknown { kind, stream } => format!(in alloc; "type {kind} {stream}"),
+    }
+}
+
+fn shown(alloc: Global, next: &Next) -> Result<String, AllocError> {
+    match next {
+        Next::Frame(frame) => shown_frame(alloc, frame),
+        Next::More => String::from_str(alloc, "more"),
+        Next::Fault(fault) => format!(in alloc; "code {} rule {}", fault.code, fault.rule),
+    }
+}
+
+/// The first answer but `More` to the bytes after the preface, fed in pieces.
+fn answer(alloc: Global, bytes: &[u8], piece: usize) -> Result<Next, Memory> {
+    let mut reader = FrameReader::new(alloc);
+    reader.feed(alloc, PREFACE)?;
+    let mut rest = bytes;
+    for _ in 0..bytes.len() {
+        let n = piece.min(reader.need()).min(rest.len());
+        let (now, after) = rest.split_at(n);
+        reader.feed(alloc, now)?;
+        rest = after;
+        let next = reader.next(alloc)?;
+        if !matches!(next, Next::More) {
+            return Ok(next);
+        }
+    }
+    Ok(Next::More)
+}
+
+/// The answer to `bytes` in pieces of one byte, and of as many as are missing, is `want`.
+fn expect(rt: &impl Abort, alloc: Global, bytes: &[u8], want: &str) -> Result<(), Fail> {
+    for piece in [1, 16_384] {
+        let text = shown(alloc, &answer(alloc, bytes, piece)?)?;
+        assert_eq!(rt; text.as_str(), want, "in pieces of {piece}");
+    }
+    Ok(())
+}
+
+#[test]
+fn frames_of_a_stream_are_read(rt: HostRuntime) -> Result<(), Fail> {
+    let alloc = rt.alloc();
+    expect(
+        &rt,
+        alloc,
+        b"\0\0\x05\0\0\0\0\0\x01hello",
+        "DATA 1 false 5 [104, 101, 108, 108, 111]",
+    )?;
+    expect(
+        &rt,
+        alloc,
+        b"\0\0\x05\0\x09\x80\0\0\x01\x02hi\0\0",
+        "DATA 1 true 5 [104, 105]",
+    )?;
+    expect(
+        &rt,
+        alloc,
+        b"\0\0\x02\x01\x04\0\0\0\x01\x20\x88",
+        "HEADERS 1 false true [32, 136]",
+    )?;
+    expect(
+        &rt,
+        alloc,
+        b"\0\0\x0a\x01\x29\0\0\0\x03\x02\x80\0\0\x01\x0f\x82\x84\0\0",
+        "HEADERS 3 true false [130, 132]",
+    )?;
+    expect(
+        &rt,
+        alloc,
+        b"\0\0\x05\x02\0\0\0\0\x05\0\0\0\x03\x10",
+        "PRIORITY 5",
+    )?;
+    expect(
+        &rt,
+        alloc,
+        b"\0\0\x04\x03\0\0\0\0\x01\0\0\0\x08",
+        "RST_STREAM 1 8",
+    )?;
+    expect(
+        &rt,
+        alloc,
+        b"\0\0\x01\x09\x04\0\0\0\x01\x82",
+        "CONTINUATION 1 true [130]",
+    )?;
+    expect(&rt, alloc, b"\0\0\x03\x0a\xff\0\0\0\x09abc", "type 10 9")
+}
+
+#[test]
+fn frames_of_the_connection_are_read(rt: HostRuntime) -> Result<(), Fail> {
+    let alloc = rt.alloc();
+    expect(&rt, alloc, b"\0\0\0\x04\x01\0\0\0\0", "SETTINGS true []")?;
+    expect(
+        &rt,
+        alloc,
+        b"\0\0\x06\x04\0\0\0\0\0\0\xff\0\0\0\x01",
+        "SETTINGS false [Pair { id: 255, value: 1 }]",
+    )?;
+    expect(
+        &rt,
+        alloc,
+        b"\0\0\x08\x06\0\0\0\0\0\x01\x02\x03\x04\x05\x06\x07\x08",
+        "PING false [1, 2, 3, 4, 5, 6, 7, 8]",
+    )?;
+    expect(
+        &rt,
+        alloc,
+        b"\0\0\x0a\x07\0\0\0\0\0\x80\0\0\x07\0\0\0\x02ok",
+        "GOAWAY 7 2",
+    )?;
+    expect(
+        &rt,
+        alloc,
+        b"\0\0\x04\x08\0\0\0\0\0\x80\x0f\0\x01",
+        "WINDOW_UPDATE 0 983041",
+    )
+}
+
+#[test]
+fn a_broken_rule_is_the_answer(rt: HostRuntime) -> Result<(), Fail> {
+    let alloc = rt.alloc();
+    expect(&rt, alloc, b"\0\x40\x01\0\0\0\0\0\x01", "code 6 rule 2")?;
+    expect(&rt, alloc, b"\0\x40\0\0\0\0\0\0\x01", "more")?;
+    expect(&rt, alloc, b"\0\0\0\0\0\0\0\0\0", "code 1 rule 3")?;
+    expect(&rt, alloc, b"\0\0\0\x04\0\0\0\0\x01", "code 1 rule 3")?;
+    expect(
+        &rt,
+        alloc,
+        b"\0\0\x07\x06\0\0\0\0\0\x01\x02\x03\x04\x05\x06\x07",
+        "code 6 rule 4",
+    )?;
+    expect(
+        &rt,
+        alloc,
+        b"\0\0\x07\x04\0\0\0\0\0\0\x04\0\0\0\x04\0",
+        "code 6 rule 4",
+    )?;
+    expect(&rt, alloc, b"\0\0\0\0\x08\0\0\0\x01", "code 6 rule 4")?;
+    expect(
+        &rt,
+        alloc,
+        b"\0\0\x04\x01\x20\0\0\0\x01\0\0\0\0",
+        "code 6 rule 4",
+    )?;
+    expect(&rt, alloc, b"\0\0\x01\0\x08\0\0\0\x01\x01", "code 1 rule 5")?;
+    expect(
+        &rt,
+        alloc,
+        b"\0\0\x04\x05\x04\0\0\0\x01\0\0\0\x02",
+        "code 1 rule 6",
+    )
+}
+
+#[test]
+fn what_is_held_and_missing_is_counted(rt: HostRuntime) -> Result<(), Fail> {
+    let alloc = rt.alloc();
+    let mut reader = FrameReader::new(alloc);
+    assert_eq!(rt; (reader.held(), reader.need()), (0, 24));
+    reader.feed(alloc, b"PRI * HTTP")?;
+    assert_eq!(rt; (reader.held(), reader.need()), (10, 14));
+    assert!(rt; matches!(reader.next(alloc)?, Next::More));
+    assert_eq!(rt; reader.need(), 14);
+    reader.feed(alloc, b"/2.0\r\n\r\nSM\r\n\r\n")?;
+    assert_eq!(rt; (reader.held(), reader.need()), (0, 9));
+    reader.feed(alloc, b"\0\x40\0\0\0\0\0\0\x01")?;
+    assert_eq!(rt; (reader.held(), reader.need()), (9, 16_384));
+    Ok(())
+}
+
+#[test]
+fn a_wrong_byte_of_the_preface_is_a_fault_at_once(rt: HostRuntime) -> Result<(), Fail> {
+    let alloc = rt.alloc();
+    let mut reader = FrameReader::new(alloc);
+    reader.feed(alloc, b"PRI ")?;
+    assert_eq!(rt; shown(alloc, &reader.next(alloc)?)?.as_str(), "more");
+    assert_eq!(rt; reader.need(), 20);
+    reader.feed(alloc, b"\0")?;
+    assert_eq!(rt;
+        shown(alloc, &reader.next(alloc)?)?.as_str(),
+        "code 1 rule 1"
+    );
+    assert_eq!(rt;
+        shown(alloc, &reader.next(alloc)?)?.as_str(),
+        "code 1 rule 1"
+    );
+    Ok(())
+}
+
+#[test]
+fn frames_of_the_connection_are_written(rt: HostRuntime) -> Result<(), Fail> {
+    let alloc = rt.alloc();
+    let mut out = Vec::new(alloc);
+    let limits = vec![in alloc;
+        Pair { id: 3, value: 100 },
+        Pair {
+            id: 6,
+            value: 16_384
+        },
+    ]?;
+    write_frame(
+        &mut out,
+        &Frame::Settings {
+            ack: false,
+            pairs: Pairs::from_vec(limits),
+        },
+    )?;
+    let pairs = Pairs::from_vec(Vec::new(alloc));
+    write_frame(&mut out, &Frame::Settings { ack: true, pairs })?;
+    write_frame(
+        &mut out,
+        &Frame::Ping {
+            ack: true,
+            octets: [1, 2, 3, 4, 5, 6, 7, 8],
+        },
+    )?;
+    write_frame(&mut out, &Frame::Goaway { last: 0, code: 1 })?;
+    write_frame(&mut out, &Frame::Window { stream: 0, add: 54 })?;
+    let want = b"\0\0\x0c\x04\0\0\0\0\0\0\x03\0\0\0\x64\0\x06\0\0\x40\0\
+        \0\0\0\x04\x01\0\0\0\0\
+        \0\0\x08\x06\x01\0\0\0\0\x01\x02\x03\x04\x05\x06\x07\x08\
+        \0\0\x08\x07\0\0\0\0\0\0\0\0\0\0\0\0\x01\
+        \0\0\x04\x08\0\0\0\0\0\0\0\0\x36";
+    assert_eq!(rt; out.as_slice(), want.as_slice());
+    Ok(())
+}
+
+#[test]
+fn frames_of_a_stream_are_written(rt: HostRuntime) -> Result<(), Fail> {
+    let alloc = rt.alloc();
+    let mut out = Vec::new(alloc);
+    let block = Blob::of(alloc, b"\x20\x88\x0f\x10\x10application/grpc")?;
+    write_frame(
+        &mut out,
+        &Frame::Headers {
+            stream: 1,
+            end: false,
+            whole: true,
+            block,
+        },
+    )?;
+    let bytes = Blob::of(alloc, b"hi")?;
+    write_frame(
+        &mut out,
+        &Frame::Body {
+            stream: 1,
+            end: false,
+            bytes,
+            counted: 2,
+        },
+    )?;
+    let block = Blob::of(alloc, b"\0\x0bgrpc-status\x010")?;
+    write_frame(
+        &mut out,
+        &Frame::Headers {
+            stream: 1,
+            end: true,
+            whole: true,
+            block,
+        },
+    )?;
+    let block = Blob::of(alloc, b"\x88")?;
+    write_frame(
+        &mut out,
+        &Frame::Continuation {
+            stream: 3,
+            whole: true,
+            block,
+        },
+    )?;
+    write_frame(&mut out, &Frame::Reset { stream: 1, code: 3 })?;
+    write_frame(&mut out, &Frame::Priority { stream: 5 })?;
+    write_frame(
+        &mut out,
+        &Frame::Unknown {
+            kind: 10,
+            stream: 7,
+        },
+    )?;
+    let want = b"\0\0\x15\x01\x04\0\0\0\x01\x20\x88\x0f\x10\x10application/grpc\
+        \0\0\x02\0\0\0\0\0\x01hi\
+        \0\0\x0f\x01\x05\0\0\0\x01\0\x0bgrpc-status\x010\
+        \0\0\x01\x09\x04\0\0\0\x03\x88\
+        \0\0\x04\x03\0\0\0\0\x01\0\0\0\x03\
+        \0\0\x05\x02\0\0\0\0\x05\0\0\0\0\x0f\
+        \0\0\0\x0a\0\0\0\0\x07";
+    assert_eq!(rt; out.as_slice(), want.as_slice());
+    Ok(())
+}
