@@ -1,6 +1,6 @@
 //! What waits on the streams of a connection.
 
-ghost use Rattle.std.specs.Prelude.{◌≡◌, ℕ, ◌-◌, ◌<◌, ◌≤◌, ◌^◌, [], length, min, Some, IsSome, IfOk, OnOk, OnErr, nat_eq, IsTrue, ◌↔◌};
+ghost use Rattle.std.specs.Prelude.{◌≡◌, ℕ, ◌-◌, ◌<◌, ◌≤◌, ◌^◌, [], ◌++◌, length, min, Some, IsSome, OnOk, OnErr, nat_eq, IsTrue, ◌↔◌};
 ghost use Rattle.std.specs.Map.{lookup};
 ghost use Rattle.h2_frames.specs.Header.{max_frame_size};
 ghost use Rattle.h2_frames.specs.Sound.{IsStreamId, IsInRange};
@@ -212,32 +212,37 @@ impl Answers {
         }
     }
 
-    // The frame of a part, which is next on its stream.
-    fn frame(&self, alloc: Global, due: Due, first: bool) -> Result<Blob, Memory>
+    // Appends the frame of a part, which is next on its stream.
+    fn put(&self, out: &mut Vec<u8>, due: Due, first: bool) -> Result<(), Memory>
         requires { IsAhead self.now due }
-        ensures spelled { IfOk result (λ bytes. bytes ≡ spelling (due_frame first self.now due)) }
+        ensures ok { OnOk result (out.new.items ≡ out.old.items ++ spelling (due_frame first self.now due)) }
+        ensures err { OnErr result (out.new.items ≡ out.old.items) }
         ensures writable { IsWritable (due_frame first self.now due) }
         ensures in_range { IsInRange (due_frame first self.now due) }
     {
         match self.queues.get(&due.stream) {
-            Some(queue) => queue.frame(alloc, due.stream, due.part, first),
+            Some(queue) => queue.put(out, due.stream, due.part, first),
             None => unreachable!(),
         }
     }
 
-    /// Takes a frame, which is next on its stream: its bytes, which are all of it. `first` says that no header block of
-    /// the connection was taken. Where memory is refused, all is as it was.
-    pub fn take(&mut self, alloc: Global, due: Due, first: bool) -> Result<Blob, Memory>
+    /// Takes a frame, which is next on its stream, and appends all of its bytes. `first` says that no header block of
+    /// the connection was taken. Where memory is refused, all that waits and `out` are as they were.
+    ///
+    /// Each byte is copied once, and no memory is asked for but what `out` grows by: none where it has room for the
+    /// frame.
+    pub fn take_into(&mut self, out: &mut Vec<u8>, due: Due, first: bool) -> Result<(), Memory>
         requires { IsAhead self.old due }
-        ensures spelled { IfOk result (λ bytes. bytes ≡ spelling (due_frame first self.old due)) }
+        ensures spelled { OnOk result (out.new.items ≡ out.old.items ++ spelling (due_frame first self.old due)) }
         ensures writable { IsWritable (due_frame first self.old due) }
         ensures in_range { IsInRange (due_frame first self.old due) }
         ensures ok { OnOk result (ChangesOnly self.old self.new due.stream (waiting_behind self.old due)) }
         ensures err { OnErr result (self.new ≡ self.old) }
+        ensures same { OnErr result (out.new.items ≡ out.old.items) }
     {
-        let bytes = self.frame(alloc, due, first)?;
+        self.put(out, due, first)?;
         self.advance(due.stream, due.part);
-        Ok(bytes)
+        Ok(())
     }
 }
 

@@ -3,7 +3,7 @@
 //!
 //! - [`Answers`] keeps, for each stream on which something waits, the parts of its answer in their order: the HEADERS
 //!   that begin it, its replies, its trailers, and the resets of the stream. It finds the next frame that may be
-//!   written, and spells it.
+//!   written, and appends it to a buffer that the caller has.
 //! - [`Due`] names that frame by its stream and its [`Part`].
 //! - [`Limits`] tells the send window of a stream, and whether a control frame of it waits.
 //!

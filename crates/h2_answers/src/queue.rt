@@ -1,6 +1,6 @@
 //! What waits on one stream.
 
-ghost use Rattle.std.specs.Prelude.{◌≡◌, ℕ, ◌+◌, ◌≤◌, ◌<◌, ◌↔◌, IsTrue, IfOk, OnOk, OnErr, length, nat_le, Some, None, if◌then◌else◌, ◌^◌};
+ghost use Rattle.std.specs.Prelude.{◌≡◌, ℕ, ◌+◌, ◌≤◌, ◌<◌, ◌++◌, ◌↔◌, IsTrue, OnOk, OnErr, length, nat_le, Some, None, if◌then◌else◌, ◌^◌};
 ghost use Rattle.std.specs.List.{concat};
 ghost use Rattle.h2_frames.specs.Header.{max_frame_size};
 ghost use Rattle.h2_frames.specs.Sound.{IsStreamId, IsInRange};
@@ -14,7 +14,8 @@ ghost use Rattle.h2_answers.specs.Search.{IsGreatestLen, IsOpen};
 use crate::limits::Limits;
 use crate::part::{Given, Head, Part};
 use crate::replies::Replies;
-use crate::spelled::{self, HEADER_LEN, MAX_FRAME_SIZE, RESET_LEN};
+use crate::spelled::{RESET_LEN, put_data, put_headers, put_reset};
+use h2_frames::{HEADER_LEN, MAX_FRAME_SIZE};
 use outside::{Blob, Memory};
 use std::alloc::Global;
 use std::collections::VecDeque;
@@ -119,31 +120,32 @@ impl Queue {
         }
     }
 
-    /// The frame of a part, which is next.
-    pub(crate) fn frame(
+    /// Appends the frame of a part, which is next. Where memory is refused, `out` is as it was.
+    pub(crate) fn put(
         &self,
-        alloc: Global,
+        out: &mut Vec<u8>,
         id: u32,
         part: Part,
         first: bool,
-    ) -> Result<Blob, Memory>
+    ) -> Result<(), Memory>
         requires next { IsNext self.now part }
         requires stream { IsStreamId id }
-        ensures spelled { IfOk result (λ bytes. bytes ≡ spelling (frame_of first id self.now part)) }
+        ensures ok { OnOk result (out.new.items ≡ out.old.items ++ spelling (frame_of first id self.now part)) }
+        ensures err { OnErr result (out.new.items ≡ out.old.items) }
         ensures writable { IsWritable (frame_of first id self.now part) }
         ensures in_range { IsInRange (frame_of first id self.now part) }
     {
         match part {
             Part::Head { end } => match &self.head {
-                Some(head) => spelled::headers(alloc, id, end, first, head.block.bytes()),
+                Some(head) => put_headers(out, id, end, first, head.block.bytes()),
                 None => unreachable!(),
             },
-            Part::Body { len } => spelled::data(alloc, id, &self.replies, len as usize),
+            Part::Body { len } => put_data(out, id, &self.replies, len),
             Part::Tail => match &self.tail {
-                Some(block) => spelled::headers(alloc, id, true, first, block.bytes()),
+                Some(block) => put_headers(out, id, true, first, block.bytes()),
                 None => unreachable!(),
             },
-            Part::Reset { code } => spelled::reset(alloc, id, code),
+            Part::Reset { code } => put_reset(out, id, code),
         }
     }
 }
@@ -166,7 +168,7 @@ fn body_len(room: u32, connection: i64, window: i64, waiting: u64) -> u32
     ensures { IsGreatestLen room connection window waiting result }
 {
     let most = room
-        .saturating_sub(HEADER_LEN)
+        .saturating_sub(HEADER_LEN as u32)
         .min(open(connection))
         .min(open(window));
     u64::from(most).min(waiting) as u32
@@ -177,7 +179,7 @@ fn headers_fit(block: &Blob, first: bool, room: u32) -> bool
     requires { length block.now < max_frame_size }
     ensures { result ≡ nat_le (9 + length (block_of first block.now)) room }
 {
-    HEADER_LEN as usize + usize::from(first) + block.len() <= room as usize
+    HEADER_LEN + usize::from(first) + block.len() <= room as usize
 }
 
 impl Queue {

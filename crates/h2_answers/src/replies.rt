@@ -1,6 +1,6 @@
 //! The replies of a stream that wait.
 
-ghost use Rattle.std.specs.Prelude.{◌≡◌, ℕ, ◌+◌, ◌-◌, ◌^◌, ◌<◌, ◌≤◌, ◌==◌, List, [], ◌++◌, length, take, OnOk, OnErr};
+ghost use Rattle.std.specs.Prelude.{◌≡◌, ℕ, ◌+◌, ◌-◌, ◌^◌, ◌<◌, ◌≤◌, ◌==◌, List, [], ◌++◌, length, take, OnOk, OnErr, vec_len, vec_capacity};
 ghost use Rattle.std.specs.List.{concat, AllByRecursion};
 ghost use Rattle.h2_answers.specs.Replies.{IsUnwritten, adding_reply, drop_bytes};
 ghost use Rattle.h2_answers.specs.Kept.{unwritten};
@@ -89,11 +89,12 @@ impl Replies {
         self.waiting -= n as u64;
     }
 
-    /// Appends the first `n` bytes that wait. Where memory is refused, fewer may be appended.
-    pub(crate) fn copy_front(&self, out: &mut Vec<u8>, n: usize) -> Result<(), Memory>
-        ensures { OnOk result (out.new.items ≡ out.old.items ++ take n (concat self.now)) }
+    /// Appends the first `n` bytes that wait. Room for them is there.
+    pub(crate) fn copy_front(&self, out: &mut Vec<u8>, n: usize)
+        requires { vec_len out.old + n ≤ vec_capacity out.old }
+        ensures { out.new.items ≡ out.old.items ++ take n (concat self.now) }
     {
-        copy_front(&self.kept, self.at, out, n)
+        copy_front(&self.kept, self.at, out, n);
     }
 }
 
@@ -118,22 +119,22 @@ fn drop_front(kept: &mut VecDeque<Blob>, at: &mut usize, n: usize)
     }
 }
 
-// Appends bytes from the front of the replies, without the first `at` of the first.
-fn copy_front(kept: &VecDeque<Blob>, at: usize, out: &mut Vec<u8>, n: usize) -> Result<(), Memory>
-    requires { AllByRecursion IsUnwritten (unwritten at kept.now.items) }
-    ensures { OnOk result (out.new.items ≡ out.old.items ++ take n (concat (unwritten at kept.now.items))) }
+// Appends bytes from the front of the replies, without the first `at` of the first. Room for them is there.
+fn copy_front(kept: &VecDeque<Blob>, at: usize, out: &mut Vec<u8>, n: usize)
+    requires each { AllByRecursion IsUnwritten (unwritten at kept.now.items) }
+    requires room { vec_len out.old + n ≤ vec_capacity out.old }
+    ensures { out.new.items ≡ out.old.items ++ take n (concat (unwritten at kept.now.items)) }
 {
     let mut left = n;
     let mut skip = at;
     for reply in kept.iter() {
         let rest = &reply.bytes()[skip..];
         if left <= rest.len() {
-            out.extend_from_slice(&rest[..left])?;
-            return Ok(());
+            out.extend_from_slice(&rest[..left]).unwrap();
+            return;
         }
-        out.extend_from_slice(rest)?;
+        out.extend_from_slice(rest).unwrap();
         left -= rest.len();
         skip = 0;
     }
-    Ok(())
 }

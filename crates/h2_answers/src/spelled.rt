@@ -1,8 +1,7 @@
-//! How the frames of an answer are spelled.
+//! How the frames of an answer are spelled. Each is appended whole; where memory is refused, nothing is.
 
-ghost use Rattle.std.specs.Prelude.{◌≡◌, ◌+◌, ◌^◌, ◌<◌, ◌≤◌, ◌∷◌, ◌++◌, true, false, length, take, IfOk, OnOk};
+ghost use Rattle.std.specs.Prelude.{◌≡◌, ◌+◌, ◌^◌, ◌<◌, ◌≤◌, [], ◌∷◌, ◌++◌, true, false, length, take, OnOk, OnErr, if◌then◌else◌};
 ghost use Rattle.std.specs.List.{concat};
-ghost use Rattle.wire_bytes.specs.Number.{bytes_of};
 ghost use Rattle.h2_frames.specs.Header.{max_frame_size};
 ghost use Rattle.h2_frames.specs.Sound.{IsStreamId};
 ghost use Rattle.h2_frames.specs.Spelling.{spelling};
@@ -10,94 +9,82 @@ ghost use Rattle.h2_frames.specs.declared.frame.Frame.TheVariants as frames;
 ghost use Rattle.h2_answers.specs.Due.{block_of};
 
 use crate::replies::Replies;
-use h2_frames::{Frame, write_frame};
-use outside::{Blob, Memory};
-use std::alloc::Global;
+use h2_frames::{END_HEADERS, END_STREAM, Frame, Header, Kind, write_frame};
+use outside::Memory;
 
-/// The number of bytes before a payload (RFC 9113 section 4.1).
-pub(crate) const HEADER_LEN: u32 = 9;
-
-/// The number of bytes of RST_STREAM: a header, and an error code in four bytes (section 6.4).
+/// The number of bytes of RST_STREAM: a header, and an error code in four bytes (RFC 9113 section 6.4).
 pub(crate) const RESET_LEN: u32 = 13;
 
-/// The greatest payload, in bytes (section 4.2).
-pub(crate) const MAX_FRAME_SIZE: u32 = 16_384;
-
-/// The type of DATA.
-const DATA: u8 = 0;
-/// The type of HEADERS.
-const HEADERS: u8 = 1;
-/// END_STREAM of HEADERS.
-const END_STREAM: u8 = 0x1;
-/// END_HEADERS of HEADERS.
-const END_HEADERS: u8 = 0x4;
-
 /// A dynamic table size update to 0 (RFC 7541 section 6.3).
-const TABLE_OF_SIZE_0: u8 = 0x20;
+const TABLE_OF_SIZE_0: [u8; 1] = [0x20];
 
-// Appends the nine bytes before a payload of `len` bytes.
-fn put_header(out: &mut Vec<u8>, len: usize, kind: u8, flags: u8, stream: u32) -> Result<(), Memory>
-    requires { len ≤ max_frame_size }
-    ensures { OnOk result (out.new.items ≡ out.old.items ++ (bytes_of 3 len ++ kind ∷ flags ∷ bytes_of 4 stream)) }
+// What stands before a block: the first of a connection begins with a dynamic table size update to 0.
+fn before_block<'a>(first: bool) -> &'a [u8]
+    ensures { result.now ≡ (if first then 32 ∷ [] else []) }
 {
-    let len = len as u32;
-    let [_, l2, l1, l0] = len.to_be_bytes();
-    let [s3, s2, s1, s0] = stream.to_be_bytes();
-    out.extend_from_slice(&[l2, l1, l0, kind, flags, s3, s2, s1, s0])?;
-    Ok(())
+    if first { &TABLE_OF_SIZE_0 } else { &[] }
 }
 
-/// HEADERS with a whole block. The first block of a connection begins with a dynamic table size update to 0.
+/// HEADERS with a whole block.
 #[tactic(auto, unfolding(h2_frames::specs::Spelling::spelling))]
-pub(crate) fn headers(
-    alloc: Global,
+pub(crate) fn put_headers(
+    out: &mut Vec<u8>,
     stream: u32,
     end: bool,
     first: bool,
     block: &[u8],
-) -> Result<Blob, Memory>
+) -> Result<(), Memory>
     requires { length block.now < max_frame_size }
-    ensures { IfOk result (λ bytes. bytes ≡ spelling (frames.Headers stream end true (block_of first block.now))) }
+    ensures ok { OnOk result (out.new.items ≡ out.old.items ++ spelling (frames.Headers stream end true (block_of first block.now))) }
+    ensures err { OnErr result (out.new.items ≡ out.old.items) }
 {
-    let len = usize::from(first) + block.len();
+    let before = before_block(first);
     let flags = if end {
         END_STREAM + END_HEADERS
     } else {
         END_HEADERS
     };
-    let mut out = Vec::with_capacity(alloc, HEADER_LEN as usize + len)?;
-    put_header(&mut out, len, HEADERS, flags, stream)?;
-    if first {
-        out.push(TABLE_OF_SIZE_0)?;
-    }
+    let header = Header {
+        length: (before.len() + block.len()) as u32,
+        kind: Kind::Headers,
+        flags,
+        stream,
+    };
+    header.put(out)?;
+    out.extend_from_slice(before)?;
     out.extend_from_slice(block)?;
-    Ok(Blob::from_vec(out))
+    Ok(())
 }
 
 /// DATA of the first `len` bytes that wait, each copied once.
 #[tactic(auto, unfolding(h2_frames::specs::Spelling::spelling))]
-pub(crate) fn data(
-    alloc: Global,
+pub(crate) fn put_data(
+    out: &mut Vec<u8>,
     stream: u32,
     replies: &Replies,
-    len: usize,
-) -> Result<Blob, Memory>
+    len: u32,
+) -> Result<(), Memory>
     requires small { len ≤ max_frame_size }
     requires there { len ≤ length (concat replies.now) }
-    ensures { IfOk result (λ bytes. bytes ≡ spelling (frames.Body stream false (take len (concat replies.now)) len)) }
+    ensures ok { OnOk result (out.new.items ≡ out.old.items ++ spelling (frames.Body stream false (take len (concat replies.now)) len)) }
+    ensures err { OnErr result (out.new.items ≡ out.old.items) }
 {
-    let mut out = Vec::with_capacity(alloc, HEADER_LEN as usize + len)?;
-    put_header(&mut out, len, DATA, 0, stream)?;
-    replies.copy_front(&mut out, len)?;
-    Ok(Blob::from_vec(out))
+    let header = Header {
+        length: len,
+        kind: Kind::Data,
+        flags: 0,
+        stream,
+    };
+    header.put(out)?;
+    replies.copy_front(out, len as usize);
+    Ok(())
 }
 
 /// RST_STREAM.
-pub(crate) fn reset(alloc: Global, stream: u32, code: u32) -> Result<Blob, Memory>
+pub(crate) fn put_reset(out: &mut Vec<u8>, stream: u32, code: u32) -> Result<(), Memory>
     requires { IsStreamId stream }
-    ensures { IfOk result (λ bytes. bytes ≡ spelling (frames.Reset stream code)) }
+    ensures ok { OnOk result (out.new.items ≡ out.old.items ++ spelling (frames.Reset stream code)) }
+    ensures err { OnErr result (out.new.items ≡ out.old.items) }
 {
-    let mut out = Vec::with_capacity(alloc, RESET_LEN as usize)?;
-    write_frame(alloc, &mut out, &Frame::Reset { stream, code })?;
-    Ok(Blob::from_vec(out))
+    write_frame(out, &Frame::Reset { stream, code })
 }

@@ -89,7 +89,7 @@ pairs_of-bytes : (pairs : List Pair) → AllByRecursion IsPairInRange pairs → 
 pairs_of-bytes [] fits = refl
 pairs_of-bytes (pair ∷ pairs) fits = rw (pair_of-bytes pair fits.0, pairs_of-bytes pairs fits.1) refl
 
-length-pairs : (pairs : List Pair) → length (flat_map pair_bytes pairs) ≡ 6 * length pairs
+pub length-pairs : (pairs : List Pair) → length (flat_map pair_bytes pairs) ≡ 6 * length pairs
 length-pairs [] = refl
 length-pairs (pair ∷ pairs) = omega (arith, length-pairs pairs)
 

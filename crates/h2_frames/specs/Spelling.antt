@@ -4,6 +4,7 @@ use Rattle.std.specs.List.{flat_map}
 use Rattle.wire_bytes.specs.Number.{bytes_of}
 use Rattle.h2_frames.specs.declared.kind.Kind.{Kind}
 use Rattle.h2_frames.specs.declared.kind.Kind.TheVariants as kinds
+use Rattle.h2_frames.specs.declared.header.Header.{Header}
 use Rattle.h2_frames.specs.declared.frame.Frame.{Frame}
 use Rattle.h2_frames.specs.declared.frame.Frame.TheVariants as frames
 use Rattle.h2_frames.specs.declared.pairs.Pair.{Pair}
@@ -23,9 +24,13 @@ kind_byte kinds.WindowUpdate = 8
 kind_byte kinds.Continuation = 9
 kind_byte (kinds.Unknown byte) = byte
 
+-- the nine bytes before a payload
+abbrev pub header_bytes : Header → List ℕ
+header_bytes header = bytes_of 3 header.length ++ kind_byte header.kind ∷ header.flags ∷ bytes_of 4 header.stream
+
 -- the payload behind its nine bytes
 abbrev pub frame_bytes : Kind → (flags stream : ℕ) → List ℕ → List ℕ
-frame_bytes kind flags stream payload = bytes_of 3 (length payload) ++ kind_byte kind ∷ flags ∷ bytes_of 4 stream ++ payload
+frame_bytes kind flags stream payload = header_bytes (record { length = length payload; kind = kind; flags = flags; stream = stream }) ++ payload
 
 abbrev pub flag_if : Bool → ℕ → ℕ
 flag_if set flag = if set then flag else 0

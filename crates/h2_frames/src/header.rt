@@ -1,10 +1,11 @@
 //! The nine bytes before a payload.
 
-ghost use Rattle.std.specs.Prelude.{◌≡◌, ◌<◌, ◌≤◌, length, MatchResult};
+ghost use Rattle.std.specs.Prelude.{◌≡◌, ◌+◌, ◌<◌, ◌≤◌, ◌^◌, ◌++◌, length, MatchResult, OnOk, OnErr, vec_len, vec_capacity};
 ghost use Rattle.h2_frames.specs.Header.{header_len};
 
 use crate::kind::Kind;
-use wire_bytes::{Cursor, Short};
+use outside::Memory;
+use wire_bytes::{Cursor, Short, put_u24, put_u32};
 
 /// The number of bytes before a payload (RFC 9113 section 4.1).
 pub const HEADER_LEN: usize = 9;
@@ -37,6 +38,7 @@ pub struct Header {
 impl Header {
     ghost use Rattle.std.specs.Prelude.{not, ◌==◌, bit_and};
     ghost use Rattle.h2_frames.specs.Header.{header_of, has_flag};
+    ghost use Rattle.h2_frames.specs.Spelling.{header_bytes};
 
     /// The header that the bytes begin with; [`Short`] where they are fewer than nine.
     #[tactic(auto, unfolding(crate::specs::Header::header_of))]
@@ -61,5 +63,20 @@ impl Header {
         ensures { result ≡ has_flag self.now.flags flag }
     {
         self.flags & flag != 0
+    }
+
+    /// Appends the nine bytes, with the reserved bit clear, and makes room for the payload that follows them. Where
+    /// memory is refused, `out` is as it was.
+    pub fn put(&self, out: &mut Vec<u8>) -> Result<(), Memory>
+        requires { self.now.length < 2 ^ 24 }
+        ensures ok { OnOk result (out.new.items ≡ out.old.items ++ header_bytes self.now) }
+        ensures err { OnErr result (out.new.items ≡ out.old.items) }
+        ensures room { OnOk result (vec_len out.new + self.now.length ≤ vec_capacity out.new) }
+    {
+        out.reserve(HEADER_LEN + self.length as usize)?;
+        put_u24(out, self.length)?;
+        out.push(self.kind.byte())?;
+        out.push(self.flags)?;
+        put_u32(out, self.stream)
     }
 }

@@ -4,6 +4,9 @@ ghost use Rattle.std.specs.Prelude.{◌≡◌};
 
 use std::marker::Model;
 
+/// The bytes of a pair (RFC 9113 section 6.5.1).
+pub(crate) const PAIR_LEN: usize = 6;
+
 /// One setting, by its identifier (RFC 9113 section 6.5.1).
 #[derive(Clone, Copy, Debug, PartialEq, Eq)]
 pub struct Pair {

@@ -11,7 +11,7 @@ use crate::fault::H2Fault;
 use crate::frame::Frame;
 use crate::header::{ACK, END_HEADERS, END_STREAM, Header, PADDED, PRIORITY};
 use crate::kind::Kind;
-use crate::pairs::{Pair, Pairs};
+use crate::pairs::{PAIR_LEN, Pair, Pairs};
 use outside::{Blob, Memory};
 use std::alloc::Global;
 use std::mem;
@@ -23,9 +23,6 @@ pub const FRAME_SIZE_ERROR: u32 = 6;
 
 /// The bytes of the priority fields of HEADERS: a stream and a weight (RFC 9113 section 6.2).
 const PRIORITY_LEN: usize = 5;
-
-/// The bytes of a pair of SETTINGS (RFC 9113 section 6.5.1).
-const PAIR_LEN: usize = 6;
 
 /// The low 31 bits of a field whose first bit is reserved.
 const LOW_31_BITS: u32 = 0x7fff_ffff;
