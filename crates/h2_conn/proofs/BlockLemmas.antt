@@ -8,7 +8,7 @@ use Rattle.hpack_codes.specs.Integers.{int_spelling}
 use Rattle.hpack_blocks.specs.declared.fields.Field.{Field}
 use Rattle.hpack_blocks.specs.Static.{static_table}
 use Rattle.hpack_blocks.specs.Spelling.{Fits, block_spelling, place_of_field, place_of_name, string_spelling, literal_spelling, spelling_at, field_spelling}
-use Rattle.h2_conn.proofs.BoolLemmas.{and-first, and-second, lt-true, by-test}
+use Rattle.h2_record.proofs.BoolLemmas.{and-first, and-second, lt-true, by-test}
 
 -- ---- the entries of the static table are short
 

@@ -4,22 +4,23 @@ use Rattle.std.specs.Option.{option_or}
 use Rattle.hpack_blocks.specs.Answers.{Standing, Open}
 use Rattle.h2_frames.specs.declared.frame.Frame.{Frame}
 use Rattle.h2_frames.specs.declared.frame.Frame.TheVariants as frames
-use Rattle.h2_conn.specs.declared.block.OpenBlock.{OpenBlock}
-use Rattle.h2_conn.specs.declared.hearing.Heard.{Heard}
-use Rattle.h2_conn.specs.declared.hearing.Heard.TheVariants as heard
-use Rattle.h2_conn.specs.Record.{Record, In}
-use Rattle.h2_conn.specs.Blocks.{begun_block, table_of, table_after, table_behind, whole_block, reading_of}
-use Rattle.h2_conn.specs.Refusals.{malformed_reading}
-use Rattle.h2_conn.specs.Rules.{broken, code_if, reading_code, size_code}
-use Rattle.h2_conn.specs.Events.{read_event}
-use Rattle.h2_conn.specs.Hearing.{Hears, Tells}
-use Rattle.h2_conn.specs.Control.{frame_of, written_control_of}
+use Rattle.h2_record.specs.declared.block.OpenBlock.{OpenBlock}
+use Rattle.h2_conn.specs.declared.whole_block.BlockTold.{BlockTold}
+use Rattle.h2_conn.specs.declared.whole_block.BlockTold.TheVariants as heard
+use Rattle.h2_record.specs.Record.{Record, In}
+use Rattle.h2_record.specs.Blocks.{begun_block, table_of, table_after, table_behind, whole_block, reading_of}
+use Rattle.h2_record.specs.Refusals.{malformed_reading}
+use Rattle.h2_record.specs.Rules.{broken, code_if, reading_code, size_code}
+use Rattle.h2_record.specs.Events.{read_event}
+use Rattle.h2_conn.specs.WholeBlock.{ReadsBlock, Tells}
+use Rattle.h2_record.specs.Control.{frame_of, written_control_of}
 use Rattle.h2_conn.specs.Held.{Held}
 use Rattle.h2_conn.specs.Counting.{CountedBlock}
-use Rattle.h2_conn.specs.Taking.{Settled, early_of, late_fault, Fails}
-use Rattle.h2_conn.proofs.BoolLemmas.{lt-no}
-use Rattle.h2_conn.proofs.FaultSplit.{breaks-late}
-use Rattle.h2_conn.proofs.StepLemmas.{controls-in}
+use Rattle.h2_conn.specs.Taking.{Settled, early_of, Fails}
+use Rattle.h2_record.specs.Early.{late_fault}
+use Rattle.h2_record.proofs.BoolLemmas.{lt-no}
+use Rattle.h2_conn.proofs.SettledFaults.{breaks-late}
+use Rattle.h2_record.proofs.StepLemmas.{controls-in}
 
 -- the block that a connection makes of HEADERS
 pub begun-held : (c : Held) (r : Record) (stream : ℕ) (ended : Bool) (fragment : List ℕ) → Settled c r
@@ -27,7 +28,7 @@ pub begun-held : (c : Held) (r : Record) (stream : ℕ) (ended : Bool) (fragment
 begun-held c r stream ended fragment s = λ i. record { stream = stream; ended = ended; is_late = not (nat_lt (s.streams.last i) stream); bytes = fragment; continuations = 0 }
 
 -- what was heard of a whole block
-pub tells-of : (r : Record) (frame : Frame) (block : OpenBlock) (heard : Heard) (decoder : Standing) → whole_block r frame ≡ Some block → Hears block (reading_of r block) (Some heard) decoder
+pub tells-of : (r : Record) (frame : Frame) (block : OpenBlock) (heard : BlockTold) (decoder : Standing) → whole_block r frame ≡ Some block → ReadsBlock block (reading_of r block) (Some heard) decoder
     → Tells r frame (Some heard) × (decoder ≡ Open (table_of (In frame ∷ r))) × (reading_code (reading_of r block) ≡ None)
 tells-of r frame block heard.Malformed decoder whole hears =
     ((block, whole, ap (malformed_reading block) hears.2 ∙ hears.3), hears.4 ∙ ap Open (sym (ap (table_after (table_of r)) whole ∙ ap (table_behind (table_of r)) hears.2)), ap reading_code hears.2)
@@ -57,6 +58,7 @@ module _ (c : Held) (r : Record) (stream : ℕ) (ended : Bool) (fragment : List 
     breaks = breaks-late c r (frames.Headers stream ended true fragment) s early ∙ late-whole (Some 9) (ap reading_code bad);
     controls = s.controls;
     last = s.streams.last;
+    headed = s.headed;
   }
 
   -- a first fragment
@@ -84,7 +86,7 @@ module _ (c : Held) (r : Record) (stream : ℕ) (ended : Bool) (fragment : List 
       }
 
   -- a whole block
-  pub counts-whole : (decoder : Standing) (heard : Heard) → early_of c (frames.Headers stream ended true fragment) ≡ None → Hears (begun_block r stream ended fragment) (reading_of r (begun_block r stream ended fragment)) (Some heard) decoder
+  pub counts-whole : (decoder : Standing) (heard : BlockTold) → early_of c (frames.Headers stream ended true fragment) ≡ None → ReadsBlock (begun_block r stream ended fragment) (reading_of r (begun_block r stream ended fragment)) (Some heard) decoder
       → CountedBlock (record c { has_begun = true; block = None; decoder = decoder }) r (frames.Headers stream ended true fragment)
   counts-whole decoder heard early hears =
       let frame = frames.Headers stream ended true fragment in

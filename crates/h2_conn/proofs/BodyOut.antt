@@ -14,29 +14,31 @@ use Rattle.h2_answers.specs.Replies.{drop_bytes}
 use Rattle.h2_answers.specs.Waiting.{Waiting, data_of, waiting_on, ChangesOnly}
 use Rattle.h2_answers.specs.Due.{IsNext, IsAhead}
 use Rattle.h2_answers.proofs.ReplyLemmas.{concat-drop_bytes, drop_bytes-drop_bytes}
-use Rattle.h2_conn.specs.declared.control.Control.{Control}
-use Rattle.h2_conn.specs.declared.control.Control.TheVariants as control
-use Rattle.h2_conn.specs.Record.{Record, Out, sum_in, sum_out}
-use Rattle.h2_conn.specs.Windows.{connection_window_of, with_increment, with_any_data, initial_of, first_window, data_out}
-use Rattle.h2_conn.specs.Live.{is_live_with, entry_of}
-use Rattle.h2_conn.specs.Resets.{reset_behind, is_live, is_open}
-use Rattle.h2_conn.specs.Replies.{replies_of, unwritten_of}
-use Rattle.h2_conn.specs.Credits.{is_free, most_waiting, kept_of, credit, freed_by}
-use Rattle.h2_conn.specs.Control.{frame_of, written_control_of}
-use Rattle.h2_conn.specs.Texts.{Token, Octet, Aborted, written_text}
-use Rattle.h2_conn.specs.Kept.{kept_on}
+use Rattle.h2_record.specs.declared.control.Control.{Control}
+use Rattle.h2_record.specs.declared.control.Control.TheVariants as control
+use Rattle.h2_record.specs.Record.{Record, Out, sum_in, sum_out}
+use Rattle.h2_record.specs.Windows.{connection_window_of, with_increment, with_any_data, initial_of, first_window, data_out}
+use Rattle.h2_record.specs.Live.{is_live_with, entry_of}
+use Rattle.h2_record.specs.Resets.{reset_behind, is_live, is_open}
+use Rattle.h2_record.specs.Replies.{replies_of, unwritten_of}
+use Rattle.h2_record.specs.Credits.{is_free, most_waiting, kept_of, credit, freed_by}
+use Rattle.h2_record.specs.Control.{frame_of, written_control_of}
+use Rattle.h2_record.specs.Texts.{Token, Octet, Aborted, written_text}
+use Rattle.h2_conn.specs.KeptCredit.{kept_on}
 use Rattle.h2_conn.specs.Latest.{is_free_on}
 use Rattle.h2_conn.specs.Held.{Held}
 use Rattle.h2_conn.specs.Stands.{StreamsStand, OpenStands}
 use Rattle.h2_conn.specs.Waits.{head_text, tail_text, waiting_text, WaitsBy, WaitsLive, WaitsClosed}
-use Rattle.h2_conn.specs.Taking.{settled_control, settled_kept, Settled}
+use Rattle.h2_record.specs.Settling.{settled_control, settled_kept}
+use Rattle.h2_conn.specs.Taking.{Settled}
 use Rattle.h2_conn.specs.Parts.{part_frame, PartGoes, FreesBy, is_freed, spent_stream, SpendsBy, Spends}
-use Rattle.h2_conn.proofs.BoolLemmas.{apart-flip, same-eq, same-self, by-test}
-use Rattle.h2_conn.proofs.StepLemmas.{controls-more, settled_kept-closed}
-use Rattle.h2_conn.proofs.CloseLemmas.{live-within, found-some, found-set}
+use Rattle.h2_record.proofs.BoolLemmas.{apart-flip, same-eq, same-self, by-test}
+use Rattle.h2_record.proofs.StepLemmas.{controls-more, settled_kept-closed}
+use Rattle.h2_record.proofs.LiveLaws.{live-within}
+use Rattle.h2_conn.proofs.CloseLemmas.{found-some, found-set}
 use Rattle.h2_conn.proofs.ResetLemmas.{waits-live, waits-here, waits-elsewhere}
 use Rattle.h2_conn.proofs.WaitingLemmas.{replies-wait}
-use Rattle.h2_conn.proofs.KeptLaws.{is_keeping, kept-out}
+use Rattle.h2_record.proofs.KeptLaws.{is_keeping, kept-out}
 use Rattle.h2_conn.proofs.OutLemmas.{open-out, unwritten-out, GoesOn, streams-out}
 use Rattle.h2_conn.proofs.OutSteps.{out_after, stands-out}
 

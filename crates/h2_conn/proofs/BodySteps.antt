@@ -9,33 +9,36 @@ use Rattle.h2_streams.specs.declared.stream.StreamState.TheVariants as is
 use Rattle.h2_streams.specs.Book.{Book, find}
 use Rattle.h2_answers.specs.Replies.{drop_bytes}
 use Rattle.h2_answers.specs.Waiting.{Waiting, waiting_on, with_reset as also_reset, ChangesOnly}
-use Rattle.h2_conn.specs.declared.block.OpenBlock.{OpenBlock}
-use Rattle.h2_conn.specs.declared.block.Owed.{Owed}
-use Rattle.h2_conn.specs.declared.control.Control.TheVariants as control
-use Rattle.h2_conn.specs.declared.event.Event.TheVariants as event
-use Rattle.h2_conn.specs.Record.{Record, In, any_in, any_out, sum_in, sum_out}
-use Rattle.h2_conn.specs.Windows.{connection_window_of, receive_window_of, with_increment, with_payload, first_window, data_out}
-use Rattle.h2_conn.specs.Ids.{last_of}
-use Rattle.h2_conn.specs.Blocks.{open_of, table_of}
-use Rattle.h2_conn.specs.Live.{Reset, opens, ends, finishes, cancels, is_reset, is_live_with, entry_of, is_idle_above}
-use Rattle.h2_conn.specs.Resets.{reset_by, with_reset, resets_of, is_live, is_open, state_of}
-use Rattle.h2_conn.specs.Refusals.{body_refusal, first_reset}
-use Rattle.h2_conn.specs.Faults.{flood_code}
-use Rattle.h2_conn.specs.Replies.{replies_of}
-use Rattle.h2_conn.specs.Credits.{kept_of, owed_of}
-use Rattle.h2_conn.specs.Control.{answer_to, frame_of}
-use Rattle.h2_conn.specs.Events.{event_by}
-use Rattle.h2_conn.specs.Kept.{KeptOnly}
+use Rattle.h2_record.specs.declared.block.OpenBlock.{OpenBlock}
+use Rattle.h2_record.specs.declared.block.OwedCredit.{OwedCredit}
+use Rattle.h2_record.specs.declared.control.Control.TheVariants as control
+use Rattle.h2_record.specs.declared.event.Event.TheVariants as event
+use Rattle.h2_record.specs.Record.{Record, In, any_in, any_out, sum_in, sum_out}
+use Rattle.h2_record.specs.Windows.{connection_window_of, receive_window_of, with_increment, with_payload, first_window, data_out}
+use Rattle.h2_record.specs.Ids.{last_of}
+use Rattle.h2_record.specs.Blocks.{open_of, table_of}
+use Rattle.h2_record.specs.Live.{Reset, opens, ends, finishes, cancels, is_reset, is_live_with, entry_of, is_idle_above}
+use Rattle.h2_record.specs.Resets.{reset_by, with_reset, resets_of, is_live, is_open, state_of}
+use Rattle.h2_record.specs.Refusals.{body_refusal, first_reset}
+use Rattle.h2_record.specs.Faults.{flood_code}
+use Rattle.h2_record.specs.Replies.{replies_of}
+use Rattle.h2_record.specs.Credits.{kept_of, owed_of}
+use Rattle.h2_record.specs.Control.{answer_to, frame_of}
+use Rattle.h2_record.specs.Events.{event_by}
+use Rattle.h2_conn.specs.KeptCredit.{KeptOnly}
 use Rattle.h2_conn.specs.Payload.{paid, Pays}
 use Rattle.h2_conn.specs.Held.{Held}
 use Rattle.h2_conn.specs.Stands.{OpenStands}
 use Rattle.h2_conn.specs.Counting.{Counted, CountedBody, payload_credit, owed_if}
-use Rattle.h2_conn.specs.Taking.{Settled, settled_kept, early_of, late_fault, Takes, Refuses}
-use Rattle.h2_conn.proofs.BoolLemmas.{and-true-or-false, same-self, or-second, and-false, lt-false}
-use Rattle.h2_conn.proofs.OptionLemmas.{or-nothing}
+use Rattle.h2_conn.specs.Taking.{Settled, early_of, Takes, Refuses}
+use Rattle.h2_record.specs.Settling.{settled_kept}
+use Rattle.h2_record.specs.Early.{late_fault}
+use Rattle.h2_record.proofs.BoolLemmas.{and-true-or-false, same-self, or-second, and-false, lt-false}
+use Rattle.h2_record.proofs.OptionLemmas.{or-nothing}
 use Rattle.h2_conn.proofs.FloodLemmas.{sound-flood, count-flood}
-use Rattle.h2_conn.proofs.StepLemmas.{sound-in, controls-in}
-use Rattle.h2_conn.proofs.TouchLemmas.{TouchesOne, IsOf, streams-touch}
+use Rattle.h2_record.proofs.StepLemmas.{sound-in, controls-in}
+use Rattle.h2_conn.proofs.TouchLemmas.{TouchesOne, streams-touch}
+use Rattle.h2_record.proofs.ApartLemmas.{IsOf}
 use Rattle.h2_conn.proofs.CloseLemmas.{OnLive, touch-keep, found-some}
 use Rattle.h2_conn.proofs.ShutLemmas.{OnShut, touch-shut}
 use Rattle.h2_conn.proofs.ResetLemmas.{still-shut, reset-shut, keep-touch, kept-shut, touch-reset, waits-live, waits-elsewhere, waits-late}
@@ -44,7 +47,7 @@ use Rattle.h2_conn.proofs.StateLemmas.{state-live, state-closed}
 use Rattle.h2_conn.proofs.WindowSteps.{lt-yes-int, lt-no-int}
 
 -- A counted connection that has seen to the frame's stream.
-pub counted-stands : (c : Held) (r : Record) (frame : Frame) (id : ℕ) (x : Option Reset) (streams : Book) (answers : List (ℕ × Waiting)) (kept : List (ℕ × ℕ)) (owed : Option Owed) (block : Option OpenBlock) (decoder : Standing)
+pub counted-stands : (c : Held) (r : Record) (frame : Frame) (id : ℕ) (x : Option Reset) (streams : Book) (answers : List (ℕ × Waiting)) (kept : List (ℕ × ℕ)) (owed : Option OwedCredit) (block : Option OpenBlock) (decoder : Standing)
     → Counted c r frame → TouchesOne c.streams streams c.answers answers r frame id x → connection_window_of (In frame ∷ r) ≡ connection_window_of r
     → block ≡ open_of (In frame ∷ r) → decoder ≡ Open (table_of (In frame ∷ r)) → owed ≡ owed_of (In frame ∷ r) → KeptOnly c.kept kept id (kept_of (In frame ∷ r) id)
     → OpenStands (record c { streams = streams; answers = answers; kept = kept; owed = owed; block = block; decoder = decoder }) (In frame ∷ r)
@@ -205,7 +208,7 @@ module _ (r : Record) (stream counted : ℕ) (end : Bool) (bytes : List ℕ) whe
       (let less : (receive_window_of r stream -ℤ pos counted) ≡ (pos out -ℤ pos (sum + counted)) = omega (arith, ints) in less ∙ sym (λ i. pos out -ℤ pos (if same-self stream i then sum + counted else sum))) in
       λ i. record (entry_of r stream) { receive = receive i; ended = sym (ends-now going) i }
 
-  pub takes-body : (c : Held) (streams : Book) (kept : List (ℕ × ℕ)) (owed : Option Owed) → CountedBody c r (frames.Body stream end bytes counted) → state_of r stream ≡ is.Live
+  pub takes-body : (c : Held) (streams : Book) (kept : List (ℕ × ℕ)) (owed : Option OwedCredit) → CountedBody c r (frames.Body stream end bytes counted) → state_of r stream ≡ is.Live
       → IfSome (find c.streams stream) (Pays c.streams stream end counted true streams)
       → owed ≡ owed_of (In (frames.Body stream end bytes counted) ∷ r) → KeptOnly c.kept kept stream (kept_of (In (frames.Body stream end bytes counted) ∷ r) stream)
       → Takes r (frames.Body stream end bytes counted) (Some (event.Body stream bytes end)) (record c { streams = streams; kept = kept; owed = owed })
@@ -270,7 +273,7 @@ module _ (r : Record) (stream counted : ℕ) (end : Bool) (bytes : List ℕ) whe
       ∙ ap (λ (e : Bool). if is_open (In (frames.Body stream e bytes counted) ∷ r) stream && not (counted == 0) then Some (record { stream = stream; bytes = counted }) else None) more
       ∙ sym (ap (λ (e : Bool). owed_of (In (frames.Body stream e bytes counted) ∷ r)) more)
     where
-      flip : (b : Bool) → ◌≡◌ {A = Option Owed} (if b then None else Some (record { stream = stream; bytes = counted })) (if not b then Some (record { stream = stream; bytes = counted }) else None)
+      flip : (b : Bool) → ◌≡◌ {A = Option OwedCredit} (if b then None else Some (record { stream = stream; bytes = counted })) (if not b then Some (record { stream = stream; bytes = counted }) else None)
       flip true = refl
       flip false = refl
 

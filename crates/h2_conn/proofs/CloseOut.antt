@@ -6,26 +6,28 @@ use Rattle.h2_frames.specs.declared.frame.Frame.{Frame}
 use Rattle.h2_streams.specs.declared.stream.Stream.{Stream}
 use Rattle.h2_streams.specs.Book.{Book, find, without, without_reset, remembering}
 use Rattle.h2_answers.specs.Waiting.{Waiting, waiting_on, nothing, ChangesOnly}
-use Rattle.h2_conn.specs.Record.{Record, Out, any_in, any_out}
-use Rattle.h2_conn.specs.Windows.{connection_window_of}
-use Rattle.h2_conn.specs.Ids.{begun_of}
-use Rattle.h2_conn.specs.Live.{Reset, opens, ends, finishes, cancels, is_reset, is_live_with, remembered_in, entry_of}
-use Rattle.h2_conn.specs.Resets.{reset_behind, with_reset, resets_of, is_live}
-use Rattle.h2_conn.specs.Credits.{is_free, most_waiting, kept_of, freed_by}
-use Rattle.h2_conn.specs.Control.{frame_of, written_control_of}
-use Rattle.h2_conn.specs.Texts.{codes_on, written_codes, has_headed}
-use Rattle.h2_conn.specs.Fresh.{is_on}
-use Rattle.h2_conn.specs.Kept.{kept_on, KeptOnly}
+use Rattle.h2_record.specs.Record.{Record, Out, any_in, any_out}
+use Rattle.h2_record.specs.Windows.{connection_window_of}
+use Rattle.h2_record.specs.Ids.{begun_of}
+use Rattle.h2_record.specs.Live.{Reset, opens, ends, finishes, cancels, is_reset, is_live_with, remembered_in, entry_of}
+use Rattle.h2_record.specs.Resets.{reset_behind, with_reset, resets_of, is_live}
+use Rattle.h2_record.specs.Credits.{is_free, most_waiting, kept_of, freed_by}
+use Rattle.h2_record.specs.Control.{frame_of, written_control_of}
+use Rattle.h2_record.specs.Texts.{codes_on, written_codes, has_headed}
+use Rattle.h2_record.specs.Fresh.{is_on}
+use Rattle.h2_conn.specs.KeptCredit.{kept_on, KeptOnly}
 use Rattle.h2_conn.specs.Held.{Held}
 use Rattle.h2_conn.specs.Stands.{StreamsStand, OpenStands}
 use Rattle.h2_conn.specs.Waits.{WaitsBy, WaitsLive, WaitsClosed}
-use Rattle.h2_conn.specs.Taking.{settled_kept, settled_control, Settled}
-use Rattle.h2_conn.proofs.BoolLemmas.{and-true, and-false, apart-flip, same-eq, same-self, by-test}
-use Rattle.h2_conn.proofs.LiveLemmas.{distinct-begun, filter-same, keys-closed}
-use Rattle.h2_conn.proofs.TouchLemmas.{IsOf, away-of}
-use Rattle.h2_conn.proofs.CloseLemmas.{live-unreset, live-within, codes-none, found-removed, found-set, found-none, found-some, distinct-live}
+use Rattle.h2_record.specs.Settling.{settled_kept, settled_control}
+use Rattle.h2_conn.specs.Taking.{Settled}
+use Rattle.h2_record.proofs.BoolLemmas.{and-true, and-false, apart-flip, same-eq, same-self, by-test}
+use Rattle.h2_record.proofs.LiveLemmas.{distinct-begun, filter-same, keys-closed}
+use Rattle.h2_record.proofs.ApartLemmas.{IsOf, away-of}
+use Rattle.h2_record.proofs.LiveLaws.{live-unreset, live-within, codes-none}
+use Rattle.h2_conn.proofs.CloseLemmas.{found-removed, found-set, found-none, found-some, distinct-live}
 use Rattle.h2_conn.proofs.ResetLemmas.{waits-here, waits-elsewhere}
-use Rattle.h2_conn.proofs.KeptLaws.{is_keeping, kept-out}
+use Rattle.h2_record.proofs.KeptLaws.{is_keeping, kept-out}
 use Rattle.h2_conn.proofs.OutLemmas.{GoesOn, live-out, open-out, unwritten-out, streams-out}
 use Rattle.h2_conn.proofs.OutSteps.{out_after, stands-out}
 

@@ -1,7 +1,7 @@
 -- What waits on the streams once one is reset by the server.
 use Rattle.std.proofs.Common.{◌≡◌, ℕ, nat_eq, Bool, true, false, List, [], ◌∷◌, refl, ap, ◌∙◌, if◌then◌else◌}
 use Rattle.h2_answers.specs.Waiting.{Waiting, waiting_on, nothing, with_reset, ChangesOnly}
-use Rattle.h2_conn.proofs.BoolLemmas.{same-self}
+use Rattle.h2_record.proofs.BoolLemmas.{same-self}
 
 -- what waited is dropped, and then a reset waits
 pub changes-reset : (old between new : List (ℕ × Waiting)) (id code : ℕ) → ChangesOnly old between id nothing → ChangesOnly between new id (with_reset (waiting_on between id) code)

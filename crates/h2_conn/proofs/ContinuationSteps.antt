@@ -5,34 +5,36 @@ use Rattle.hpack_blocks.specs.Answers.{Standing}
 use Rattle.h2_frames.specs.declared.frame.Frame.TheVariants as frames
 use Rattle.h2_streams.specs.Book.{Book}
 use Rattle.h2_answers.specs.Waiting.{Waiting, waiting_on}
-use Rattle.h2_conn.specs.declared.block.OpenBlock.{OpenBlock}
-use Rattle.h2_conn.specs.declared.event.Event.{Event}
-use Rattle.h2_conn.specs.declared.event.Event.TheVariants as event
-use Rattle.h2_conn.specs.declared.hearing.Heard.{Heard}
-use Rattle.h2_conn.specs.declared.hearing.Heard.TheVariants as heard
-use Rattle.h2_conn.specs.Record.{Record, In}
-use Rattle.h2_conn.specs.Ids.{begun_of}
-use Rattle.h2_conn.specs.Blocks.{continued, open_of, whole_block, reading_of}
-use Rattle.h2_conn.specs.Live.{Reset, remembered_in}
-use Rattle.h2_conn.specs.Resets.{reset_by, with_reset, resets_of, is_live}
-use Rattle.h2_conn.specs.Refusals.{malformed_block, first_reset}
-use Rattle.h2_conn.specs.Rules.{broken, code_if, block_code, reading_code, size_code, is_large}
-use Rattle.h2_conn.specs.Control.{frame_of, written_control_of}
-use Rattle.h2_conn.specs.Events.{event_by, served_event, whole_event, is_request}
-use Rattle.h2_conn.specs.Kept.{KeptOnly}
-use Rattle.h2_conn.specs.Hearing.{Hears, Tells}
+use Rattle.h2_record.specs.declared.block.OpenBlock.{OpenBlock}
+use Rattle.h2_record.specs.declared.event.Event.{Event}
+use Rattle.h2_record.specs.declared.event.Event.TheVariants as event
+use Rattle.h2_conn.specs.declared.whole_block.BlockTold.{BlockTold}
+use Rattle.h2_conn.specs.declared.whole_block.BlockTold.TheVariants as heard
+use Rattle.h2_record.specs.Record.{Record, In}
+use Rattle.h2_record.specs.Ids.{begun_of}
+use Rattle.h2_record.specs.Blocks.{continued, open_of, whole_block, reading_of}
+use Rattle.h2_record.specs.Live.{Reset, remembered_in}
+use Rattle.h2_record.specs.Resets.{reset_by, with_reset, resets_of, is_live}
+use Rattle.h2_record.specs.Refusals.{malformed_block, first_reset}
+use Rattle.h2_record.specs.Rules.{broken, code_if, block_code, reading_code, size_code, is_large}
+use Rattle.h2_record.specs.Control.{frame_of, written_control_of}
+use Rattle.h2_record.specs.Events.{event_by, served_event, whole_event, is_request}
+use Rattle.h2_conn.specs.KeptCredit.{KeptOnly}
+use Rattle.h2_conn.specs.WholeBlock.{ReadsBlock, Tells}
 use Rattle.h2_conn.specs.Held.{Held}
 use Rattle.h2_conn.specs.Stands.{StreamsStand}
 use Rattle.h2_conn.specs.Counting.{Counted, CountedBlock}
-use Rattle.h2_conn.specs.Taking.{Settled, early_of, late_fault, Fails, Takes, Refuses}
-use Rattle.h2_conn.proofs.FaultSplit.{breaks-late}
-use Rattle.h2_conn.proofs.StepLemmas.{sound-in, controls-in, kept-in}
-use Rattle.h2_conn.proofs.LiveLemmas.{filter-same}
-use Rattle.h2_conn.proofs.TouchLemmas.{live-other, open-other, found-other, waits-other, is_reset-other}
+use Rattle.h2_conn.specs.Taking.{Settled, early_of, Fails, Takes, Refuses}
+use Rattle.h2_record.specs.Early.{late_fault}
+use Rattle.h2_conn.proofs.SettledFaults.{breaks-late}
+use Rattle.h2_record.proofs.StepLemmas.{sound-in, controls-in, kept-in}
+use Rattle.h2_record.proofs.LiveLemmas.{filter-same}
+use Rattle.h2_record.proofs.ApartLemmas.{live-other, open-other, found-other, is_reset-other}
+use Rattle.h2_conn.proofs.TouchLemmas.{waits-other}
 use Rattle.h2_conn.proofs.CloseLemmas.{OnLive}
 use Rattle.h2_conn.proofs.ResetLemmas.{reset-shut, kept-shut, touch-reset}
 use Rattle.h2_conn.proofs.BodySteps.{counted-stands}
-use Rattle.h2_conn.proofs.HearingLemmas.{Telling, fine-reset, fine-event, bad-reset}
+use Rattle.h2_conn.proofs.WholeBlockLemmas.{Telling, fine-reset, fine-event, bad-reset}
 use Rattle.h2_conn.proofs.BlockSteps.{tells-of}
 
 module _ (r : Record) (stream : ℕ) (whole : Bool) (fragment : List ℕ) where
@@ -152,6 +154,7 @@ module _ (c : Held) (r : Record) (stream : ℕ) (fragment : List ℕ) (open_bloc
     breaks = breaks-late c r (frames.Continuation stream whole fragment) s early ∙ late-of whole None true read large;
     controls = s.controls;
     last = s.streams.last;
+    headed = s.headed;
   }
 
   pub fails-reading : (decoder : Standing) → early_of c (frames.Continuation stream true fragment) ≡ None → reading_of r (continued fragment open_block) ≡ None
@@ -161,6 +164,7 @@ module _ (c : Held) (r : Record) (stream : ℕ) (fragment : List ℕ) (open_bloc
         ∙ late-of true (Some 9) (is_large (continued fragment open_block)) (ap (block_code r) whole-of ∙ ap reading_code bad) refl;
     controls = s.controls;
     last = s.streams.last;
+    headed = s.headed;
   }
 
   counted-of : (whole : Bool) (block : Option OpenBlock) (decoder : Standing) → early_of c (frames.Continuation stream whole fragment) ≡ None
@@ -191,8 +195,8 @@ module _ (c : Held) (r : Record) (stream : ℕ) (fragment : List ℕ) (open_bloc
     table = s.table;
   }
 
-  pub counts-last : (decoder : Standing) (heard : Heard) → early_of c (frames.Continuation stream true fragment) ≡ None → is_large (continued fragment open_block) ≡ false
-      → Hears (continued fragment open_block) (reading_of r (continued fragment open_block)) (Some heard) decoder
+  pub counts-last : (decoder : Standing) (heard : BlockTold) → early_of c (frames.Continuation stream true fragment) ≡ None → is_large (continued fragment open_block) ≡ false
+      → ReadsBlock (continued fragment open_block) (reading_of r (continued fragment open_block)) (Some heard) decoder
       → CountedBlock (record c { has_begun = true; block = None; decoder = decoder }) r (frames.Continuation stream true fragment)
   counts-last decoder heard early small hears =
       let frame = frames.Continuation stream true fragment in

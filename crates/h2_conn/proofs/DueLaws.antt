@@ -12,24 +12,24 @@ use Rattle.h2_answers.specs.declared.part.Part.TheVariants as part
 use Rattle.h2_answers.specs.declared.part.Due.{Due}
 use Rattle.h2_answers.specs.Waiting.{Waiting, nothing, data_of, waiting_on}
 use Rattle.h2_answers.specs.Due.{IsNext, IsFree, head_block, frame_of as frame_of_part}
-use Rattle.h2_conn.specs.declared.control.Control.{Control}
-use Rattle.h2_conn.specs.declared.control.Control.TheVariants as control
+use Rattle.h2_record.specs.declared.control.Control.{Control}
+use Rattle.h2_record.specs.declared.control.Control.TheVariants as control
 use Rattle.h2_conn.specs.declared.next.Next.TheVariants as next
-use Rattle.h2_conn.specs.Record.{Record}
-use Rattle.h2_conn.specs.Live.{entry_of}
-use Rattle.h2_conn.specs.Resets.{is_live}
-use Rattle.h2_conn.specs.Control.{frame_of, control_of, due_after, written_control_of}
+use Rattle.h2_record.specs.Record.{Record}
+use Rattle.h2_record.specs.Live.{entry_of}
+use Rattle.h2_record.specs.Resets.{is_live}
+use Rattle.h2_record.specs.Control.{frame_of, control_of, due_after, written_control_of}
 use Rattle.h2_conn.specs.Latest.{latest_credit}
-use Rattle.h2_conn.specs.Texts.{Token, Fields, Octet, Aborted}
-use Rattle.h2_conn.specs.Due.{settled_control_of, IsNextControl, WaitsControl, IsStarted, IsDue}
+use Rattle.h2_record.specs.Texts.{Token, Fields, Octet, Aborted}
+use Rattle.h2_record.specs.Due.{settled_control_of, IsNextControl, WaitsControl, IsStarted, IsDue}
 use Rattle.h2_conn.specs.Held.{Held}
 use Rattle.h2_conn.specs.Stands.{OpenStands, FaultStands}
 use Rattle.h2_conn.specs.Waits.{head_text, tail_text, WaitsLive}
 use Rattle.h2_conn.specs.Parts.{part_frame}
 use Rattle.h2_conn.specs.Producing.{waiting_control, first_of, is_credit_on, send_on, is_held_by, bounds_in, IsNextIn}
-use Rattle.h2_conn.proofs.BoolLemmas.{or-first, or-second, same-self}
+use Rattle.h2_record.proofs.BoolLemmas.{or-first, or-second, same-self}
 use Rattle.h2_conn.proofs.CloseLemmas.{found-some}
-use Rattle.h2_conn.proofs.SettingsLaws.{first_frame, settings-went}
+use Rattle.h2_record.proofs.SettingsLaws.{first_frame, settings-went}
 use Rattle.h2_conn.proofs.WaitingLemmas.{settled-waiting}
 use Rattle.h2_conn.proofs.DueTexts.{lives-by, headers-due, data-due, reset-by, tail-some}
 

@@ -8,13 +8,13 @@ use Rattle.h2_frames.specs.declared.frame.Frame.TheVariants as frames
 use Rattle.h2_answers.specs.declared.part.Part.TheVariants as part
 use Rattle.h2_answers.specs.Waiting.{Waiting, nothing, data_of}
 use Rattle.h2_answers.specs.Due.{IsNext, block_of}
-use Rattle.h2_conn.specs.Record.{Record}
-use Rattle.h2_conn.specs.Windows.{send_window_of, connection_window_of}
-use Rattle.h2_conn.specs.Resets.{is_live}
-use Rattle.h2_conn.specs.Texts.{Token, Fields, Octet, Aborted, has_headed, frame_text, written_text, written_codes}
-use Rattle.h2_conn.specs.Due.{IsStarted, IsNextText, IsDueHeaders, IsDueData, IsNextCode}
+use Rattle.h2_record.specs.Record.{Record}
+use Rattle.h2_record.specs.Windows.{send_window_of, connection_window_of}
+use Rattle.h2_record.specs.Resets.{is_live}
+use Rattle.h2_record.specs.Texts.{Token, Fields, Octet, Aborted, has_headed, frame_text, written_text, written_codes}
+use Rattle.h2_record.specs.Due.{IsStarted, IsNextText, IsDueHeaders, IsDueData, IsNextCode}
 use Rattle.h2_conn.specs.Waits.{head_text, tail_text, waiting_text, WaitsLive, WaitsBy}
-use Rattle.h2_conn.proofs.BoolLemmas.{same-self}
+use Rattle.h2_record.proofs.BoolLemmas.{same-self}
 
 -- a stream lives on which anything but resets waits
 pub lives-by : (r : Record) (id : ℕ) (waiting : Waiting) (live : Bool) → is_live r id ≡ live → WaitsBy live r id waiting → (waiting ≡ record nothing { resets = waiting.resets } → ⊥)

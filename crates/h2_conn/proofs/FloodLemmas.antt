@@ -3,12 +3,13 @@ use Rattle.std.proofs.Common.{◌≡◌, ℕ, ◌+◌, ◌∷◌, Option, None, 
 use Rattle.std.specs.Option.{option_or}
 use Rattle.h2_frames.specs.declared.frame.Frame.{Frame}
 use Rattle.h2_frames.specs.declared.fault.H2Fault.{H2Fault}
-use Rattle.h2_conn.specs.Record.{Record, In}
-use Rattle.h2_conn.specs.Faults.{fault_by, flood_code, flood_of, is_flood}
-use Rattle.h2_conn.specs.Rules.{broken}
+use Rattle.h2_record.specs.Record.{Record, In}
+use Rattle.h2_record.specs.Faults.{fault_by, flood_code, flood_of, is_flood}
+use Rattle.h2_record.specs.Rules.{broken}
 use Rattle.h2_conn.specs.Held.{Held}
-use Rattle.h2_conn.specs.Taking.{early_of, late_fault, Settled, Fails}
-use Rattle.h2_conn.proofs.FaultSplit.{breaks-late}
+use Rattle.h2_conn.specs.Taking.{early_of, Settled, Fails}
+use Rattle.h2_record.specs.Early.{late_fault}
+use Rattle.h2_conn.proofs.SettledFaults.{breaks-late}
 
 -- the only late rule of a frame that speaks of no window and of no header block
 abbrev pub flood_fault : Record → Frame → Option H2Fault
@@ -20,6 +21,7 @@ fails-flood c r frame fault s early late over = record {
   breaks = breaks-late c r frame s early ∙ late ∙ ap (λ flood. option_or (broken 17 (flood_code flood frame)) None) (sym s.flood) ∙ ap (λ fault. option_or fault None) over;
   controls = s.controls;
   last = s.streams.last;
+  headed = s.headed;
 }
 
 pub sound-flood : (c : Held) (r : Record) (frame : Frame) → Settled c r → early_of c frame ≡ None → late_fault r frame ≡ flood_fault r frame

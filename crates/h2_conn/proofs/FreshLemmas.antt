@@ -3,15 +3,15 @@ use Rattle.std.proofs.Common.{◌≡◌, ℕ, ◌+◌, false, ◌&&◌, [], ◌�
 use Rattle.h2_frames.specs.declared.frame.Frame.{Frame}
 use Rattle.h2_frames.specs.declared.frame.Frame.TheVariants as frames
 use Rattle.h2_answers.specs.Replies.{adding_reply}
-use Rattle.h2_conn.specs.Record.{Record, Item, In, Out, Given, Reply, any_in, any_out, sum_in, sum_out}
-use Rattle.h2_conn.specs.Windows.{with_increment, with_payload, with_data}
-use Rattle.h2_conn.specs.Live.{ends, finishes, cancels}
-use Rattle.h2_conn.specs.Resets.{is_live}
-use Rattle.h2_conn.specs.Replies.{replies_of}
-use Rattle.h2_conn.specs.Texts.{Fields, Octet, Aborted, has_headed, given_text, written_text, frame_text, part_text, written_codes}
-use Rattle.h2_conn.specs.Fresh.{is_on, speaks, is_spoken}
-use Rattle.h2_conn.proofs.BoolLemmas.{or-first, or-second, or-none}
-use Rattle.h2_conn.proofs.TouchLemmas.{apart, finishes-off}
+use Rattle.h2_record.specs.Record.{Record, Item, In, Out, Given, Reply, any_in, any_out, sum_in, sum_out}
+use Rattle.h2_record.specs.Windows.{with_increment, with_payload, with_data}
+use Rattle.h2_record.specs.Live.{ends, finishes, cancels}
+use Rattle.h2_record.specs.Resets.{is_live}
+use Rattle.h2_record.specs.Replies.{replies_of}
+use Rattle.h2_record.specs.Texts.{Fields, Octet, Aborted, has_headed, given_text, written_text, frame_text, part_text, written_codes}
+use Rattle.h2_record.specs.Fresh.{is_on, speaks, is_spoken}
+use Rattle.h2_record.proofs.BoolLemmas.{or-first, or-second, or-none}
+use Rattle.h2_record.proofs.ApartLemmas.{apart, finishes-off}
 
 module _ (id : ℕ) where
   rest : (x : Item) (r : Record) → is_spoken (x ∷ r) id ≡ false → is_spoken r id ≡ false

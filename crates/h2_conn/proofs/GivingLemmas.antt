@@ -9,20 +9,20 @@ use Rattle.h2_streams.specs.Book.{Book, find}
 use Rattle.h2_answers.specs.Replies.{adding_reply, drop_bytes}
 use Rattle.h2_answers.specs.Waiting.{Waiting, waiting_on, nothing, with_head, with_reply, with_tail, with_reset, IsOpenEnded, ChangesOnly}
 use Rattle.h2_answers.proofs.ReplyLemmas.{drop_bytes-adding, concat-adding}
-use Rattle.h2_conn.specs.Record.{Record, Part, Given, Whole, Head, Reply, Tail, Abort}
-use Rattle.h2_conn.specs.Windows.{data_out}
-use Rattle.h2_conn.specs.Live.{is_live_with, entry_of}
-use Rattle.h2_conn.specs.Resets.{is_live}
-use Rattle.h2_conn.specs.Replies.{replies_of, unwritten_of}
-use Rattle.h2_conn.specs.Texts.{Token, Fields, Octet, Aborted, part_text, given_text, written_text}
-use Rattle.h2_conn.specs.Fresh.{is_spoken}
+use Rattle.h2_record.specs.Record.{Record, AnswerPart, Given, Whole, Head, Reply, Tail, Abort}
+use Rattle.h2_record.specs.Windows.{data_out}
+use Rattle.h2_record.specs.Live.{is_live_with, entry_of}
+use Rattle.h2_record.specs.Resets.{is_live}
+use Rattle.h2_record.specs.Replies.{replies_of, unwritten_of}
+use Rattle.h2_record.specs.Texts.{Token, Fields, Octet, Aborted, part_text, given_text, written_text}
+use Rattle.h2_record.specs.Fresh.{is_spoken}
 use Rattle.h2_conn.specs.Held.{Held}
 use Rattle.h2_conn.specs.Stands.{StreamsStand, OpenStands, StandsBy, Stands}
 use Rattle.h2_conn.specs.Waits.{head_text, tail_text, waiting_text, WaitsBy, WaitsLive}
-use Rattle.h2_conn.proofs.BoolLemmas.{or-none, apart-above, apart-flip, same-eq, same-self, by-test}
-use Rattle.h2_conn.proofs.CloseLemmas.{live-within}
+use Rattle.h2_record.proofs.BoolLemmas.{or-none, apart-above, apart-flip, same-eq, same-self, by-test}
+use Rattle.h2_record.proofs.LiveLaws.{live-within}
 use Rattle.h2_conn.proofs.ResetLemmas.{waits-live, waits-here, waits-elsewhere}
-use Rattle.h2_conn.proofs.GivenText.{written-within}
+use Rattle.h2_record.proofs.GivenText.{written-within}
 
 -- ---- what is open, and what has met a fault
 
@@ -36,12 +36,12 @@ stands-open c r sound s = subst (λ (fault : Option H2Fault). StandsBy fault c r
 pub open-stands : (c : Held) (r : Record) → c.fault ≡ None → c.is_lost ≡ false → OpenStands c r → Stands c r
 open-stands c r sound found s = (found, subst (λ (fault : Option H2Fault). StandsBy fault c r) (sym sound) s)
 
-faulty-given : (c : Held) (r : Record) (id : ℕ) (part : Part) (fault : Option H2Fault) → is_some fault ≡ true → StandsBy fault c r → StandsBy fault c (Given id part ∷ r)
+faulty-given : (c : Held) (r : Record) (id : ℕ) (part : AnswerPart) (fault : Option H2Fault) → is_some fault ≡ true → StandsBy fault c r → StandsBy fault c (Given id part ∷ r)
 faulty-given c r id part None met s = absurd (true≢false (sym met))
-faulty-given c r id part (Some fault) met s = record { met = s.met; control = s.control; waits = s.waits }
+faulty-given c r id part (Some fault) met s = record { met = s.met; begun = s.begun; headed = s.headed; control = s.control; waits = s.waits }
 
 -- behind a fault nothing is given
-pub gives-none : (c : Held) (r : Record) (id : ℕ) (part : Part) → is_some c.fault ≡ true → Stands c r → Stands c (Given id part ∷ r)
+pub gives-none : (c : Held) (r : Record) (id : ℕ) (part : AnswerPart) → is_some c.fault ≡ true → Stands c r → Stands c (Given id part ∷ r)
 gives-none c r id part met s = (s.0, faulty-given c r id part c.fault met s.1)
 
 -- ---- a request that was made whole
@@ -78,7 +78,7 @@ whole-by c r None s = record {
   flood = refl;
   headed = s.headed;
 }
-whole-by c r (Some fault) s = record { met = s.met; control = s.control; waits = s.waits }
+whole-by c r (Some fault) s = record { met = s.met; begun = s.begun; headed = s.headed; control = s.control; waits = s.waits }
 
 pub stands-whole : (c : Held) (r : Record) → Stands c r → Stands (record c { flood = 0 }) (Whole ∷ r)
 stands-whole c r s = (s.0, whole-by c r c.fault s.1)
@@ -93,7 +93,7 @@ found-live streams answers r id s some = some-if (is_live r id) (entry_of r id) 
 
 -- ---- the other streams
 
-module _ (r : Record) (id : ℕ) (part : Part) where
+module _ (r : Record) (id : ℕ) (part : AnswerPart) where
   given-apart : (other : ℕ) → (other == id) ≡ false → given_text (Given id part ∷ r) other ≡ given_text r other
   given-apart other apart = ap (λ b. if b then given_text r other ++ part_text part else given_text r other) apart
 
@@ -110,7 +110,7 @@ module _ (r : Record) (id : ℕ) (part : Part) where
   text-here waiting waiting' text more =
       ap (λ text. written_text r id ++ text) more ∙ sym (append_assoc (written_text r id) waiting (part_text part)) ∙ ap (λ text. text ++ part_text part) text ∙ sym given-here
 
-unwritten-apart : (r : Record) (id : ℕ) (part : Part) (other : ℕ) → (other == id) ≡ false → unwritten_of (Given id part ∷ r) other ≡ unwritten_of r other
+unwritten-apart : (r : Record) (id : ℕ) (part : AnswerPart) (other : ℕ) → (other == id) ≡ false → unwritten_of (Given id part ∷ r) other ≡ unwritten_of r other
 unfolding is_live_with
 unwritten-apart r id (Head fields end) other apart = refl
 unwritten-apart r id (Reply bytes) other apart =
@@ -119,7 +119,7 @@ unwritten-apart r id (Tail fields) other apart = refl
 unwritten-apart r id (Abort code) other apart = refl
 
 -- What waits on the stream is seen to, and the others are as they were.
-module _ (r : Record) (id : ℕ) (part : Part) (answers answers' : List (ℕ × Waiting)) (waiting : Waiting) (only : ChangesOnly answers answers' id waiting)
+module _ (r : Record) (id : ℕ) (part : AnswerPart) (answers answers' : List (ℕ × Waiting)) (waiting : Waiting) (only : ChangesOnly answers answers' id waiting)
     (live : is_live r id ≡ true) (here : WaitsLive (Given id part ∷ r) id waiting) where
   waits-given : (streams : Book) → StreamsStand streams answers r → (other : ℕ) → WaitsBy (is_live r other) (Given id part ∷ r) other (waiting_on answers' other)
   waits-given streams s other = by-test (id == other)
@@ -147,7 +147,7 @@ module _ (r : Record) (id : ℕ) (part : Part) (answers answers' : List (ℕ × 
 abbrev pub answering : Held → List (ℕ × Waiting) → Held
 answering c answers = record c { answers = answers }
 
-stands-given : (c : Held) (r : Record) (id : ℕ) (part : Part) (answers' : List (ℕ × Waiting)) (waiting : Waiting) → OpenStands c r → ChangesOnly c.answers answers' id waiting
+stands-given : (c : Held) (r : Record) (id : ℕ) (part : AnswerPart) (answers' : List (ℕ × Waiting)) (waiting : Waiting) → OpenStands c r → ChangesOnly c.answers answers' id waiting
     → is_live r id ≡ true → WaitsLive (Given id part ∷ r) id waiting → OpenStands (answering c answers') (Given id part ∷ r)
 unfolding is_live_with
 stands-given c r id part answers' waiting s only live here = record {
@@ -165,7 +165,7 @@ stands-given c r id part answers' waiting s only live here = record {
   headed = s.headed;
 }
 
-gives-part : (c : Held) (r : Record) (id : ℕ) (part : Part) (answers' : List (ℕ × Waiting)) (waiting : Waiting) → c.fault ≡ None → IsSome (find c.streams id) → ChangesOnly c.answers answers' id waiting
+gives-part : (c : Held) (r : Record) (id : ℕ) (part : AnswerPart) (answers' : List (ℕ × Waiting)) (waiting : Waiting) → c.fault ≡ None → IsSome (find c.streams id) → ChangesOnly c.answers answers' id waiting
     → (OpenStands c r → WaitsLive r id (waiting_on c.answers id) → is_live r id ≡ true → WaitsLive (Given id part ∷ r) id waiting) → Stands c r → Stands (answering c answers') (Given id part ∷ r)
 gives-part c r id part answers' waiting sound there only here s =
     let o = stands-open c r sound s in

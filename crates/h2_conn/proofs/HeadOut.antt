@@ -11,28 +11,30 @@ use Rattle.h2_answers.specs.declared.part.Part.TheVariants as part
 use Rattle.h2_answers.specs.declared.part.Due.{Due}
 use Rattle.h2_answers.specs.Waiting.{Waiting, waiting_on, nothing, ChangesOnly}
 use Rattle.h2_answers.specs.Due.{IsAhead, block_of, head_block, waiting_behind}
-use Rattle.h2_conn.specs.Record.{Record, In, Out, Given, Whole, Broken, any_in, any_out, has_begun}
-use Rattle.h2_conn.specs.Blocks.{open_of}
-use Rattle.h2_conn.specs.Ids.{last_of}
-use Rattle.h2_conn.specs.Live.{opens, ends, finishes, cancels, is_reset, is_live_with, is_idle_above}
-use Rattle.h2_conn.specs.Resets.{reset_behind, resets_of, is_live, state_of}
-use Rattle.h2_conn.specs.Refusals.{first_reset}
-use Rattle.h2_conn.specs.Codes.{no_error}
-use Rattle.h2_conn.specs.Faults.{fault_by, first_fault_of}
-use Rattle.h2_conn.specs.Texts.{Token, Fields, Octet, Aborted, has_headed, written_text}
+use Rattle.h2_record.specs.Record.{Record, In, Out, Given, Whole, Broken, any_in, any_out, has_begun}
+use Rattle.h2_record.specs.Blocks.{open_of}
+use Rattle.h2_record.specs.Ids.{last_of}
+use Rattle.h2_record.specs.Live.{opens, ends, finishes, cancels, is_reset, is_live_with, is_idle_above}
+use Rattle.h2_record.specs.Resets.{reset_behind, resets_of, is_live, state_of}
+use Rattle.h2_record.specs.Refusals.{first_reset}
+use Rattle.h2_record.specs.Codes.{no_error}
+use Rattle.h2_record.specs.Faults.{fault_by, first_fault_of}
+use Rattle.h2_record.specs.Texts.{Token, Fields, Octet, Aborted, has_headed, written_text}
 use Rattle.h2_conn.specs.Held.{Held}
 use Rattle.h2_conn.specs.Stands.{StreamsStand, OpenStands}
 use Rattle.h2_conn.specs.Waits.{tail_text, waiting_text, WaitsBy, WaitsLive}
-use Rattle.h2_conn.specs.Taking.{settled_control, Settled, Refuses, early_fault, late_fault}
+use Rattle.h2_record.specs.Settling.{settled_control}
+use Rattle.h2_conn.specs.Taking.{Settled, Refuses}
+use Rattle.h2_record.specs.Early.{early_fault, late_fault}
 use Rattle.h2_conn.specs.Parts.{part_frame, PartGoes, LeavesPart, Closes, FinishesBy, Finishes}
-use Rattle.h2_conn.proofs.BoolLemmas.{or-none, and-false, same-self, same-eq, lt-no}
-use Rattle.h2_conn.proofs.OptionLemmas.{first-of, second-of}
-use Rattle.h2_conn.proofs.FaultLemmas.{not-even}
-use Rattle.h2_conn.proofs.FaultSplit.{fault-split}
+use Rattle.h2_record.proofs.BoolLemmas.{or-none, and-false, same-self, same-eq, lt-no}
+use Rattle.h2_record.proofs.OptionLemmas.{first-of, second-of}
+use Rattle.h2_record.proofs.FaultLemmas.{not-even}
+use Rattle.h2_record.proofs.FaultSplit.{fault-split}
 use Rattle.h2_conn.proofs.StateLemmas.{state-settled, state-live, state-ended, state-closed, state-idle}
-use Rattle.h2_conn.proofs.CloseLemmas.{live-opened, live-within}
+use Rattle.h2_record.proofs.LiveLaws.{live-opened, live-within}
 use Rattle.h2_conn.proofs.ResetLemmas.{waits-here, waits-elsewhere, waits-live}
-use Rattle.h2_conn.proofs.KeptLaws.{is_keeping, kept-out}
+use Rattle.h2_record.proofs.KeptLaws.{is_keeping, kept-out}
 use Rattle.h2_conn.proofs.OutLemmas.{streams-out}
 use Rattle.h2_conn.proofs.DueTexts.{headers-text}
 use Rattle.h2_conn.proofs.OutSteps.{out_after, stands-out}

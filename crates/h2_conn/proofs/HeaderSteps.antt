@@ -8,34 +8,36 @@ use Rattle.h2_streams.specs.declared.stream.StreamState.TheVariants as is
 use Rattle.h2_streams.specs.Book.{Book, find, with_stream}
 use Rattle.h2_answers.specs.Replies.{drop_bytes}
 use Rattle.h2_answers.specs.Waiting.{Waiting, waiting_on, with_reset as also_reset, ChangesOnly}
-use Rattle.h2_conn.specs.declared.event.Event.TheVariants as event
-use Rattle.h2_conn.specs.declared.hearing.Heard.{Heard}
-use Rattle.h2_conn.specs.declared.hearing.Heard.TheVariants as heard
-use Rattle.h2_conn.specs.Record.{Record, In, any_in, any_out}
-use Rattle.h2_conn.specs.Windows.{data_out}
-use Rattle.h2_conn.specs.Ids.{last_of, begun_of}
-use Rattle.h2_conn.specs.Blocks.{whole_block}
-use Rattle.h2_conn.specs.Live.{Reset, opens, ends, finishes, cancels, is_reset, is_live_with, entry_of, is_idle_above}
-use Rattle.h2_conn.specs.Resets.{reset_by, with_reset, resets_of, is_live, state_of, live_of}
-use Rattle.h2_conn.specs.Refusals.{headers_refusal, malformed_block, is_served_state, first_reset}
-use Rattle.h2_conn.specs.Replies.{replies_of}
-use Rattle.h2_conn.specs.Credits.{kept_of}
-use Rattle.h2_conn.specs.Events.{event_by, whole_event, is_request}
-use Rattle.h2_conn.specs.Kept.{kept_on, KeptOnly}
+use Rattle.h2_record.specs.declared.event.Event.TheVariants as event
+use Rattle.h2_conn.specs.declared.whole_block.BlockTold.{BlockTold}
+use Rattle.h2_conn.specs.declared.whole_block.BlockTold.TheVariants as heard
+use Rattle.h2_record.specs.Record.{Record, In, any_in, any_out}
+use Rattle.h2_record.specs.Windows.{data_out}
+use Rattle.h2_record.specs.Ids.{last_of, begun_of}
+use Rattle.h2_record.specs.Blocks.{whole_block}
+use Rattle.h2_record.specs.Live.{Reset, opens, ends, finishes, cancels, is_reset, is_live_with, entry_of, is_idle_above}
+use Rattle.h2_record.specs.Resets.{reset_by, with_reset, resets_of, is_live, state_of, live_of}
+use Rattle.h2_record.specs.Refusals.{headers_refusal, malformed_block, is_served_state, first_reset}
+use Rattle.h2_record.specs.Replies.{replies_of}
+use Rattle.h2_record.specs.Credits.{kept_of}
+use Rattle.h2_record.specs.Events.{event_by, whole_event, is_request}
+use Rattle.h2_conn.specs.KeptCredit.{kept_on, KeptOnly}
 use Rattle.h2_conn.specs.Trailing.{EndsTo}
 use Rattle.h2_conn.specs.Held.{Held}
 use Rattle.h2_conn.specs.Counting.{CountedBlock}
-use Rattle.h2_conn.specs.Taking.{settled_kept, Takes, Refuses}
-use Rattle.h2_conn.specs.Hearing.{Tells}
-use Rattle.h2_conn.proofs.BoolLemmas.{and-true-or-false, same-self, or-second, and-false, lt-false, lt-no}
-use Rattle.h2_conn.proofs.TouchLemmas.{IsOf}
-use Rattle.h2_conn.proofs.CloseLemmas.{OnLive, touch-keep, live-within, live-opened, found-some}
+use Rattle.h2_record.specs.Settling.{settled_kept}
+use Rattle.h2_conn.specs.Taking.{Takes, Refuses}
+use Rattle.h2_conn.specs.WholeBlock.{Tells}
+use Rattle.h2_record.proofs.BoolLemmas.{and-true-or-false, same-self, or-second, and-false, lt-false, lt-no}
+use Rattle.h2_record.proofs.ApartLemmas.{IsOf}
+use Rattle.h2_conn.proofs.CloseLemmas.{OnLive, touch-keep, found-some}
+use Rattle.h2_record.proofs.LiveLaws.{live-within, live-opened}
 use Rattle.h2_conn.proofs.ShutLemmas.{OnShut, touch-shut}
 use Rattle.h2_conn.proofs.ResetLemmas.{reset-shut, kept-shut, touch-reset, waits-live, waits-elsewhere, waits-late, remembered-reset, reset-closed}
 use Rattle.h2_conn.proofs.StreamSteps.{kept-same, open-shut, waits-shut}
 use Rattle.h2_conn.proofs.StateLemmas.{state-live, state-ended, state-closed}
 use Rattle.h2_conn.proofs.BodySteps.{counted-stands}
-use Rattle.h2_conn.proofs.HearingLemmas.{told, IsFine, fine-reset, fine-event, bad-reset, headers-stream, no-request}
+use Rattle.h2_conn.proofs.WholeBlockLemmas.{told, IsFine, fine-reset, fine-event, bad-reset, headers-stream, no-request}
 
 module _ (r : Record) (stream : ℕ) (ended whole : Bool) (fragment : List ℕ) where
   -- what HEADERS on an id of this state make due
@@ -145,7 +147,7 @@ module _ (r : Record) (stream : ℕ) (ended whole : Bool) (fragment : List ℕ) 
   ends-now : any_in (ends stream) r ≡ false → (ends stream (frames.Headers stream ended whole fragment) || any_in (ends stream) r) ≡ ended
   ends-now going = (λ i. (ended && same-self stream i) || going i) ∙ and-true-or-false ended
 
-  pub takes-headers : (c : Held) (streams : Book) (kept : List (ℕ × ℕ)) (h : Option Heard) → CountedBlock c r (frames.Headers stream ended whole fragment) → state_of r stream ≡ is.Live
+  pub takes-headers : (c : Held) (streams : Book) (kept : List (ℕ × ℕ)) (h : Option BlockTold) → CountedBlock c r (frames.Headers stream ended whole fragment) → state_of r stream ≡ is.Live
       → IsFine h → Tells r (frames.Headers stream ended whole fragment) h
       → ((entry_of r stream).answered ≡ false → streams ≡ with_stream c.streams stream (record (entry_of r stream) { ended = ended }))
       → KeptOnly c.kept kept stream (if ended then 0 else settled_kept r stream)
@@ -182,7 +184,7 @@ module _ (r : Record) (stream : ℕ) (ended whole : Bool) (fragment : List ℕ) 
       flip true sum = refl
       flip false sum = refl
 
-  pub takes-trailers : (c : Held) (streams : Book) (kept : List (ℕ × ℕ)) (h : Option Heard) → CountedBlock c r (frames.Headers stream ended whole fragment) → state_of r stream ≡ is.Live
+  pub takes-trailers : (c : Held) (streams : Book) (kept : List (ℕ × ℕ)) (h : Option BlockTold) → CountedBlock c r (frames.Headers stream ended whole fragment) → state_of r stream ≡ is.Live
       → IsFine h → Tells r (frames.Headers stream ended whole fragment) h
       → IfSome (find c.streams stream) (EndsTo c.streams stream ended streams) → KeptOnly c.kept kept stream (if ended then 0 else kept_on c.kept stream)
       → Takes r (frames.Headers stream ended whole fragment) (told h) (record c { streams = streams; kept = kept })

@@ -1,9 +1,4 @@
-mod BoolLemmas
-mod OptionLemmas
-mod FaultLemmas
-mod LiveLemmas
-mod StepLemmas
-mod FaultSplit
+mod SettledFaults
 mod QuietLemmas
 mod FloodLemmas
 mod FollowLemmas
@@ -13,7 +8,7 @@ mod ClosingLemmas
 mod ResetLemmas
 mod ShutLemmas
 mod WithinLemmas
-mod StreamSteps
+pub mod StreamSteps
 mod WindowSteps
 mod ShiftLemmas
 mod SettingsSteps
@@ -21,21 +16,16 @@ mod StateLemmas
 mod PayloadLemmas
 mod BodySteps
 mod FreshLemmas
-mod HearingLemmas
+mod WholeBlockLemmas
 mod HeaderSteps
 mod OpenSteps
 mod BlockSteps
 mod ContinuationSteps
 mod NewLemmas
-mod GivenText
 mod GivingLemmas
 mod BlockLemmas
-mod WaitingLemmas
-mod KeptLaws
-mod ControlLaws
-mod SettingsLaws
+pub mod WaitingLemmas
 mod OutLemmas
-mod Ledger
 mod WindowLaws
 mod OutSteps
 mod WithinOut
@@ -48,4 +38,5 @@ mod HeadOut
 mod BodyOut
 mod ResetOut
 mod ProduceSteps
-mod Rows
+mod IntoLemmas
+pub mod FillSteps

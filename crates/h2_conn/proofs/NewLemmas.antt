@@ -2,7 +2,7 @@
 use Rattle.std.proofs.Common.{◌≡◌, ℕ, List, [], refl, sym, subst}
 use Rattle.h2_streams.specs.Book.{Book, no_streams}
 use Rattle.h2_answers.specs.Waiting.{Waiting}
-use Rattle.h2_conn.specs.Live.{is_live_with}
+use Rattle.h2_record.specs.Live.{is_live_with}
 use Rattle.h2_conn.specs.Stands.{StreamsStand}
 
 no-streams-stand : StreamsStand no_streams [] []

@@ -11,36 +11,39 @@ use Rattle.h2_streams.specs.Book.{Book, find, opened, refused, remembering, with
 use Rattle.h2_streams.specs.Calls.{new_stream}
 use Rattle.h2_answers.specs.Replies.{drop_bytes}
 use Rattle.h2_answers.specs.Waiting.{Waiting, waiting_on, nothing, with_reset as also_reset, ChangesOnly}
-use Rattle.h2_conn.specs.Record.{Record, In, any_in, any_out}
-use Rattle.h2_conn.specs.Windows.{data_out, initial_of, first_window}
-use Rattle.h2_conn.specs.Ids.{last_of, begun_of}
-use Rattle.h2_conn.specs.Live.{Reset, opens, ends, finishes, cancels, is_reset, is_live_with, entry_of}
-use Rattle.h2_conn.specs.Resets.{reset_by, with_reset, resets_of, is_live, is_open, state_of, live_of}
-use Rattle.h2_conn.specs.Refusals.{malformed_block, is_served_state, first_reset}
-use Rattle.h2_conn.specs.Texts.{codes_on}
+use Rattle.h2_record.specs.Record.{Record, In, any_in, any_out}
+use Rattle.h2_record.specs.Windows.{data_out, initial_of, first_window}
+use Rattle.h2_record.specs.Ids.{last_of, begun_of}
+use Rattle.h2_record.specs.Live.{Reset, opens, ends, finishes, cancels, is_reset, is_live_with, entry_of}
+use Rattle.h2_record.specs.Resets.{reset_by, with_reset, resets_of, is_live, is_open, state_of, live_of}
+use Rattle.h2_record.specs.Refusals.{malformed_block, is_served_state, first_reset}
+use Rattle.h2_record.specs.Texts.{codes_on}
 use Rattle.std.proofs.lemmas.List.{length-map}
-use Rattle.h2_conn.specs.declared.event.Event.TheVariants as event
-use Rattle.h2_conn.specs.declared.hearing.Heard.{Heard}
-use Rattle.h2_conn.specs.declared.hearing.Heard.TheVariants as heard
-use Rattle.h2_conn.specs.Blocks.{whole_block}
-use Rattle.h2_conn.specs.Credits.{kept_of}
-use Rattle.h2_conn.specs.Events.{event_by, whole_event, is_request}
-use Rattle.h2_conn.specs.Hearing.{Tells}
+use Rattle.h2_record.specs.declared.event.Event.TheVariants as event
+use Rattle.h2_conn.specs.declared.whole_block.BlockTold.{BlockTold}
+use Rattle.h2_conn.specs.declared.whole_block.BlockTold.TheVariants as heard
+use Rattle.h2_record.specs.Blocks.{whole_block}
+use Rattle.h2_record.specs.Credits.{kept_of}
+use Rattle.h2_record.specs.Events.{event_by, whole_event, is_request}
+use Rattle.h2_conn.specs.WholeBlock.{Tells}
 use Rattle.h2_conn.specs.Held.{Held}
-use Rattle.h2_conn.specs.Kept.{kept_on, KeptOnly}
+use Rattle.h2_conn.specs.KeptCredit.{kept_on, KeptOnly}
 use Rattle.h2_conn.specs.Counting.{CountedBlock}
-use Rattle.h2_conn.specs.Taking.{settled_kept, Takes, Refuses}
-use Rattle.h2_conn.proofs.StepLemmas.{settled_kept-closed}
+use Rattle.h2_record.specs.Settling.{settled_kept}
+use Rattle.h2_conn.specs.Taking.{Takes, Refuses}
+use Rattle.h2_record.proofs.StepLemmas.{settled_kept-closed}
 use Rattle.h2_conn.proofs.BodySteps.{counted-stands}
-use Rattle.h2_conn.proofs.HearingLemmas.{told, IsFine, fine-reset, fine-event, bad-reset, headers-stream}
+use Rattle.h2_conn.proofs.WholeBlockLemmas.{told, IsFine, fine-reset, fine-event, bad-reset, headers-stream}
 use Rattle.h2_conn.proofs.HeaderSteps.{made-headers}
-use Rattle.h2_conn.specs.Fresh.{is_spoken}
+use Rattle.h2_record.specs.Fresh.{is_spoken}
 use Rattle.h2_conn.specs.Stands.{StreamsStand}
 use Rattle.h2_conn.specs.Waits.{WaitsBy, WaitsClosed, waiting_text}
-use Rattle.h2_conn.proofs.BoolLemmas.{and-true-or-false, same-self, same-eq, apart-flip, or-first, or-second, and-false, lt-yes, by-test}
-use Rattle.h2_conn.proofs.LiveLemmas.{none-above, unopened, filter-append, filter-agree}
-use Rattle.h2_conn.proofs.TouchLemmas.{TouchesOne, IsOf, away-of, live-other}
-use Rattle.h2_conn.proofs.CloseLemmas.{codes-none, found-some}
+use Rattle.h2_record.proofs.BoolLemmas.{and-true-or-false, same-self, same-eq, apart-flip, or-first, or-second, and-false, lt-yes, by-test}
+use Rattle.h2_record.proofs.LiveLemmas.{none-above, unopened, filter-append, filter-agree}
+use Rattle.h2_conn.proofs.TouchLemmas.{TouchesOne}
+use Rattle.h2_record.proofs.ApartLemmas.{IsOf, away-of, live-other}
+use Rattle.h2_record.proofs.LiveLaws.{codes-none}
+use Rattle.h2_conn.proofs.CloseLemmas.{found-some}
 use Rattle.h2_conn.proofs.ResetLemmas.{reset-shut, waits-elsewhere, waits-here}
 use Rattle.h2_conn.proofs.FreshLemmas.{increments-in, increments-out, payloads-in, data-none, ends-none, cancels-none, finishes-none, replies-none, given-none, written-none, codes-unwritten}
 
@@ -211,7 +214,7 @@ module _ (c : Held) (r : Record) (stream : ℕ) (ended whole : Bool) (fragment :
   length-live : length (live_of r) ≡ length c.streams.live
   length-live = ap length (sym b.counted.streams.live) ∙ length-map c.streams.live (λ e. e.0)
 
-  pub takes-open : (streams : Book) (h : Option Heard) → (0 == stream) ≡ false → length c.streams.live < 100 → IsFine h → Tells r (frames.Headers stream ended whole fragment) h
+  pub takes-open : (streams : Book) (h : Option BlockTold) → (0 == stream) ≡ false → length c.streams.live < 100 → IsFine h → Tells r (frames.Headers stream ended whole fragment) h
       → streams ≡ opened c.streams stream (new_stream (pos c.initial) ended) → Takes r (frames.Headers stream ended whole fragment) (told h) (record c { streams = streams })
   takes-open streams h some few fine tells same =
       let frame = frames.Headers stream ended whole fragment in

@@ -6,18 +6,18 @@ use Rattle.h2_frames.specs.declared.frame.Frame.TheVariants as frames
 use Rattle.h2_streams.specs.Book.{Book, find}
 use Rattle.h2_answers.specs.Replies.{drop_bytes}
 use Rattle.h2_answers.specs.Waiting.{Waiting, waiting_on}
-use Rattle.h2_conn.specs.Record.{Record, Out, any_in, any_out, sum_in, sum_out}
-use Rattle.h2_conn.specs.Windows.{with_increment, with_payload, with_data, initial_of, first_window, data_out}
-use Rattle.h2_conn.specs.Ids.{last_of}
-use Rattle.h2_conn.specs.Live.{Reset, opens, ends, finishes, cancels, is_reset, is_live_with, remembered_in}
-use Rattle.h2_conn.specs.Resets.{reset_behind, with_reset, resets_of, is_live, is_open, stream_of, live_of}
-use Rattle.h2_conn.specs.Replies.{unwritten_of, replies_of}
-use Rattle.h2_conn.specs.Texts.{Fields, Octet, Aborted, has_headed, written_text, frame_text, written_codes, codes_on}
-use Rattle.h2_conn.specs.Fresh.{is_on, is_spoken}
+use Rattle.h2_record.specs.Record.{Record, Out, any_in, any_out, sum_in, sum_out}
+use Rattle.h2_record.specs.Windows.{with_increment, with_payload, with_data, initial_of, first_window, data_out}
+use Rattle.h2_record.specs.Ids.{last_of}
+use Rattle.h2_record.specs.Live.{Reset, opens, ends, finishes, cancels, is_reset, is_live_with, remembered_in}
+use Rattle.h2_record.specs.Resets.{reset_behind, with_reset, resets_of, is_live, is_open, stream_of, live_of}
+use Rattle.h2_record.specs.Replies.{unwritten_of, replies_of}
+use Rattle.h2_record.specs.Texts.{Fields, Octet, Aborted, has_headed, written_text, frame_text, written_codes, codes_on}
+use Rattle.h2_record.specs.Fresh.{is_on, is_spoken}
 use Rattle.h2_conn.specs.Stands.{StreamsStand}
 use Rattle.h2_conn.specs.Waits.{waiting_text, WaitsBy}
-use Rattle.h2_conn.proofs.BoolLemmas.{or-none, apart-above, apart-flip, same-eq, by-test}
-use Rattle.h2_conn.proofs.TouchLemmas.{apart, finishes-off, is_reset-away, codes-away, IsAway, IsOf, away-of}
+use Rattle.h2_record.proofs.BoolLemmas.{or-none, apart-above, apart-flip, same-eq, by-test}
+use Rattle.h2_record.proofs.ApartLemmas.{apart, finishes-off, is_reset-away, codes-away, IsAway, IsOf, away-of}
 
 -- a frame that isn't on the id
 data-off : (id : ℕ) (frame : Frame) (sum : ℕ) → is_on id frame ≡ false → with_data id frame sum ≡ sum

@@ -11,27 +11,28 @@ use Rattle.h2_flow.specs.Range.{greatest}
 use Rattle.h2_streams.specs.declared.stream.Stream.{Stream}
 use Rattle.h2_streams.specs.Book.{Book, find, with_stream}
 use Rattle.h2_answers.specs.Waiting.{Waiting, waiting_on}
-use Rattle.h2_conn.specs.declared.control.Control.{Control}
-use Rattle.h2_conn.specs.declared.control.Control.TheVariants as control
-use Rattle.h2_conn.specs.Record.{Record, Out, sum_in, sum_out}
-use Rattle.h2_conn.specs.Windows.{connection_window_of, with_increment, with_payload, first_window}
-use Rattle.h2_conn.specs.Ids.{last_of}
-use Rattle.h2_conn.specs.Live.{is_live_with, entry_of}
-use Rattle.h2_conn.specs.Resets.{reset_behind, resets_of, is_live, stream_of, live_of}
-use Rattle.h2_conn.specs.Faults.{first_fault_of}
-use Rattle.h2_conn.specs.Credits.{kept_of, freed_by}
-use Rattle.h2_conn.specs.Control.{frame_of, control_of, due_after, written_control_of}
-use Rattle.h2_conn.specs.Texts.{has_headed, written_text}
-use Rattle.h2_conn.specs.Kept.{kept_on}
+use Rattle.h2_record.specs.declared.control.Control.{Control}
+use Rattle.h2_record.specs.declared.control.Control.TheVariants as control
+use Rattle.h2_record.specs.Record.{Record, Out, sum_in, sum_out}
+use Rattle.h2_record.specs.Windows.{connection_window_of, with_increment, with_payload, first_window}
+use Rattle.h2_record.specs.Ids.{last_of}
+use Rattle.h2_record.specs.Live.{is_live_with, entry_of}
+use Rattle.h2_record.specs.Resets.{reset_behind, resets_of, is_live, stream_of, live_of}
+use Rattle.h2_record.specs.Faults.{first_fault_of}
+use Rattle.h2_record.specs.Credits.{kept_of, freed_by}
+use Rattle.h2_record.specs.Control.{frame_of, control_of, due_after, written_control_of}
+use Rattle.h2_record.specs.Texts.{has_headed, written_text}
+use Rattle.h2_conn.specs.KeptCredit.{kept_on}
 use Rattle.h2_conn.specs.Held.{Held}
 use Rattle.h2_conn.specs.Stands.{StreamsStand, OpenStands, FaultStands}
 use Rattle.h2_conn.specs.Waits.{waiting_text, WaitsBy}
 use Rattle.h2_conn.specs.Producing.{CreditedBy, Leaves}
-use Rattle.h2_conn.specs.Taking.{settled_control, Settled}
-use Rattle.h2_conn.proofs.BoolLemmas.{same-self}
+use Rattle.h2_record.specs.Settling.{settled_control}
+use Rattle.h2_conn.specs.Taking.{Settled}
+use Rattle.h2_record.proofs.BoolLemmas.{same-self}
 use Rattle.h2_conn.proofs.CloseLemmas.{found-set}
-use Rattle.h2_conn.proofs.KeptLaws.{is_keeping, kept-out}
-use Rattle.h2_conn.proofs.ControlLaws.{IsBegunTo, settled-begun, all-behind}
+use Rattle.h2_record.proofs.KeptLaws.{is_keeping, kept-out}
+use Rattle.h2_record.proofs.ControlLaws.{IsBegunTo, settled-begun, all-behind}
 use Rattle.h2_conn.proofs.OutLemmas.{GoesOn, streams-out}
 use Rattle.h2_conn.proofs.WindowLaws.{credit-fits}
 
@@ -89,11 +90,21 @@ pub controls-out : (r : Record) (x : Control) (rest : List Control) (due : List 
 controls-out r x rest due e =
     (λ i. written-by r x i ++ map frame_of rest) ∙ first-out (written_control_of r) (map frame_of rest) due (frame_of x) e ∙ sym (ap (λ freed. due ++ freed) (freed-none r x))
 
+-- it is no header block
+headed-none : (r : Record) (x : Control) → has_headed (Out (frame_of x) ∷ r) ≡ has_headed r
+headed-none r control.Settings = refl
+headed-none r control.SettingsAck = refl
+headed-none r (control.Pong octets) = refl
+headed-none r (control.Goaway last code) = refl
+headed-none r (control.Credit stream add) = refl
+
 -- after a connection error
 pub faulty-out : (c : Held) (r : Record) (fault : H2Fault) (x : Control) (rest : List Control) (unwritten : ℕ) → FaultStands c fault r → c.control ≡ x ∷ rest
     → FaultStands (record c { control = rest; unwritten = unwritten }) fault (Out (frame_of x) ∷ r)
 faulty-out c r fault x rest unwritten s first = record {
   met = s.met;
+  begun = s.begun;
+  headed = s.headed ∙ sym (headed-none r x);
   control =
       (λ i. written-by r x i ++ map frame_of rest)
       ∙ append_assoc (written_control_of r) (frame_of x ∷ []) (map frame_of rest)

@@ -8,7 +8,7 @@ use Rattle.h2_streams.specs.Calls.{Receives, settled}
 use Rattle.h2_conn.specs.Payload.{Pays}
 use Rattle.h2_conn.specs.Trailing.{EndsTo}
 use Rattle.h2_conn.specs.Within.{IsNearInitial}
-use Rattle.h2_conn.proofs.BoolLemmas.{same-self, by-test}
+use Rattle.h2_record.proofs.BoolLemmas.{same-self, by-test}
 use Rattle.h2_conn.proofs.CloseLemmas.{found-set}
 use Rattle.h2_conn.proofs.WithinLemmas.{near-set, near-removed, near-found}
 

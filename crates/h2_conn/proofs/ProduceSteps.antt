@@ -12,17 +12,17 @@ use Rattle.h2_answers.specs.declared.part.Part.{Part}
 use Rattle.h2_answers.specs.declared.part.Part.TheVariants as part
 use Rattle.h2_answers.specs.declared.part.Due.{Due}
 use Rattle.h2_answers.specs.Due.{IsAhead, IsFree}
-use Rattle.h2_conn.specs.declared.control.Control.{Control}
-use Rattle.h2_conn.specs.declared.control.Control.TheVariants as control
+use Rattle.h2_record.specs.declared.control.Control.{Control}
+use Rattle.h2_record.specs.declared.control.Control.TheVariants as control
 use Rattle.h2_conn.specs.declared.next.Next.TheVariants as next
-use Rattle.h2_conn.specs.Record.{Record, Out}
-use Rattle.h2_conn.specs.Control.{frame_of}
-use Rattle.h2_conn.specs.Due.{IsDue, IsLongest}
-use Rattle.h2_conn.specs.Kept.{kept_on}
+use Rattle.h2_record.specs.Record.{Record, Out}
+use Rattle.h2_record.specs.Control.{frame_of}
+use Rattle.h2_record.specs.Due.{IsDue, IsLongest}
+use Rattle.h2_conn.specs.KeptCredit.{kept_on}
 use Rattle.h2_conn.specs.Held.{Held}
 use Rattle.h2_conn.specs.Stands.{OpenStands, FaultStands, StandsBy, Stands}
 use Rattle.h2_conn.specs.Taking.{Settled}
-use Rattle.h2_conn.specs.Produces.{Goes, Rests, Produces}
+use Rattle.h2_conn.specs.Produces.{Goes, Rests}
 use Rattle.h2_conn.specs.Parts.{part_frame, IsWithinWindows, PartGoes, LeavesPart, FinishesBy, ResetsBy, FreesBy, SpendsBy, spent_stream, is_freed}
 use Rattle.h2_conn.specs.Producing.{waiting_control, first_of, bounds_in, IsTooLong, IsShort, IsNextIn, ControlGoes}
 use Rattle.h2_conn.proofs.OutSteps.{control-goes, faulty-out}
@@ -33,7 +33,7 @@ use Rattle.h2_conn.proofs.BodyOut.{body-stands}
 use Rattle.h2_conn.proofs.ResetOut.{reset-stands}
 
 -- a frame has bytes
-spelled-some : (frame : Frame) → 0 < frame_len frame
+pub spelled-some : (frame : Frame) → 0 < frame_len frame
 unfolding spelling
 spelled-some (frames.Body stream end bytes counted) = omega arith
 spelled-some (frames.Headers stream end whole block) = omega arith
@@ -46,10 +46,6 @@ spelled-some (frames.Goaway last code) = omega arith
 spelled-some (frames.Window stream add) = omega arith
 spelled-some (frames.Continuation stream whole block) = omega arith
 spelled-some (frames.Unknown kind stream) = omega arith
-
-pub goes-produced : (old : Held) (room : ℕ) (bytes : List ℕ) (new : Held) → Goes old room bytes new → Produces old room bytes new
-goes-produced old room [] new g = let some = spelled-some g.frame in let none : 0 ≡ frame_len g.frame = ap length g.spelled in absurd (omega (arith, some, none))
-goes-produced old room (byte ∷ bytes) new g = g
 
 -- ---- where nothing goes
 
@@ -85,7 +81,7 @@ goes-last old room fault bytes new met g fits = record {
       let f = faulty-out old r fault g.control g.behind (old.unwritten + length bytes) (stood old r (Some fault) met s) g.first in
       let lit : Held = record old { streams = new.streams; control = g.behind; unwritten = old.unwritten + length bytes } in
       let frame = frame_of g.control in
-      let stands : FaultStands lit fault (Out frame ∷ r) = record { met = f.met; control = f.control; waits = f.waits } in
+      let stands : FaultStands lit fault (Out frame ∷ r) = record { met = f.met; begun = f.begun; headed = f.headed; control = f.control; waits = f.waits } in
       subst (λ (c : Held). Stands c (Out frame ∷ r)) (sym g.rest) (s.0, subst (λ (e : Option H2Fault). StandsBy e lit (Out frame ∷ r)) (sym met) stands);
 }
 

@@ -4,30 +4,29 @@ use Rattle.h2_frames.specs.declared.frame.Frame.{Frame}
 use Rattle.h2_frames.specs.declared.frame.Frame.TheVariants as frames
 use Rattle.h2_streams.specs.Book.{Book}
 use Rattle.h2_answers.specs.Waiting.{Waiting, waiting_on}
-use Rattle.h2_conn.specs.declared.control.Control.{Control}
-use Rattle.h2_conn.proofs.BoolLemmas.{or-second}
-use Rattle.h2_conn.specs.Record.{Record, In, any_in}
+use Rattle.h2_record.specs.declared.control.Control.{Control}
+use Rattle.h2_record.proofs.BoolLemmas.{or-second}
+use Rattle.h2_record.specs.Record.{Record, In, any_in}
 use Rattle.hpack_blocks.specs.Answers.{Open}
 use Rattle.h2_frames.specs.declared.pairs.Pair.{Pair}
-use Rattle.h2_conn.specs.Windows.{initial_of, connection_window_of}
-use Rattle.h2_conn.specs.Blocks.{open_of, table_of}
-use Rattle.h2_conn.specs.Credits.{owed_of}
-use Rattle.h2_conn.specs.Live.{ends, is_live_with}
-use Rattle.h2_conn.specs.Resets.{reset_by, resets_of, is_live, is_open}
-use Rattle.h2_conn.specs.Faults.{fault_by, flood_code, flood_of, is_flood}
-use Rattle.h2_conn.specs.Rules.{broken}
-use Rattle.h2_conn.specs.Replies.{unwritten_of}
-use Rattle.h2_conn.specs.Control.{answer_to, frame_of}
-use Rattle.h2_conn.specs.Texts.{codes_on}
+use Rattle.h2_record.specs.Windows.{initial_of, connection_window_of}
+use Rattle.h2_record.specs.Blocks.{open_of, table_of}
+use Rattle.h2_record.specs.Credits.{owed_of}
+use Rattle.h2_record.specs.Live.{ends, is_live_with}
+use Rattle.h2_record.specs.Resets.{reset_by, resets_of, is_live, is_open}
+use Rattle.h2_record.specs.Faults.{fault_by, flood_code, flood_of, is_flood}
+use Rattle.h2_record.specs.Rules.{broken}
+use Rattle.h2_record.specs.Replies.{unwritten_of}
+use Rattle.h2_record.specs.Control.{answer_to, frame_of}
+use Rattle.h2_record.specs.Texts.{codes_on}
 use Rattle.h2_conn.specs.Held.{Held}
 use Rattle.h2_conn.specs.Stands.{StreamsStand, OpenStands}
 use Rattle.h2_conn.specs.Waits.{WaitsBy}
-use Rattle.h2_conn.specs.Taking.{Settled, Takes}
+use Rattle.h2_conn.specs.Taking.{Settled, Takes, IsPriority, IsAcked, IsPingAcked, IsGoaway, IsUnknown, early_of, Fails, IsPassed}
 use Rattle.h2_frames.specs.declared.fault.H2Fault.{H2Fault}
-use Rattle.h2_conn.specs.Taking.{IsPriority, IsAcked, IsPingAcked, IsGoaway, IsUnknown}
-use Rattle.h2_conn.specs.Taking.{early_of, late_fault, Fails, IsPassed}
+use Rattle.h2_record.specs.Early.{late_fault}
 use Rattle.h2_conn.proofs.FloodLemmas.{flood_fault, fails-flood, sound-flood, count-flood}
-use Rattle.h2_conn.proofs.StepLemmas.{sound-in, controls-in, kept-in}
+use Rattle.h2_record.proofs.StepLemmas.{sound-in, controls-in, kept-in}
 
 -- what waits on a stream that a frame leaves as it was
 pub waits-in : (r : Record) (frame : Frame) (id : ℕ) (waiting : Waiting) (live : Bool)

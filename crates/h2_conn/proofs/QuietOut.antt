@@ -13,27 +13,27 @@ use Rattle.h2_answers.specs.declared.part.Part.{Part}
 use Rattle.h2_answers.specs.declared.part.Due.{Due}
 use Rattle.h2_answers.specs.Due.{block_of, head_block, IsNext, IsDue as IsDuePart, IsFull, IsNextDue}
 use Rattle.h2_answers.proofs.DueLemmas.{frame_len-body}
-use Rattle.h2_conn.specs.declared.block.Owed.{Owed}
-use Rattle.h2_conn.specs.declared.control.Control.{Control}
-use Rattle.h2_conn.specs.declared.control.Control.TheVariants as control
+use Rattle.h2_record.specs.declared.block.OwedCredit.{OwedCredit}
+use Rattle.h2_record.specs.declared.control.Control.{Control}
+use Rattle.h2_record.specs.declared.control.Control.TheVariants as control
 use Rattle.h2_conn.specs.declared.next.Next.TheVariants as next
-use Rattle.h2_conn.specs.Record.{Record}
-use Rattle.h2_conn.specs.Windows.{send_window_of}
-use Rattle.h2_conn.specs.Live.{entry_of}
-use Rattle.h2_conn.specs.Resets.{is_live}
-use Rattle.h2_conn.specs.Faults.{first_fault_of}
-use Rattle.h2_conn.specs.Control.{frame_of, control_of, written_control_of, due_after}
-use Rattle.h2_conn.specs.Texts.{Fields, Octet, Aborted, has_headed, frame_text, written_text, written_codes}
-use Rattle.h2_conn.specs.Due.{settled_control_of, IsNextControl, WaitsControl, IsStarted, IsNextText, IsDueHeaders, IsDueData, IsLongest, IsNextCode, IsDueReset, IsDue}
+use Rattle.h2_record.specs.Record.{Record}
+use Rattle.h2_record.specs.Windows.{send_window_of}
+use Rattle.h2_record.specs.Live.{entry_of}
+use Rattle.h2_record.specs.Resets.{is_live}
+use Rattle.h2_record.specs.Faults.{first_fault_of}
+use Rattle.h2_record.specs.Control.{frame_of, control_of, written_control_of, due_after}
+use Rattle.h2_record.specs.Texts.{Fields, Octet, Aborted, has_headed, frame_text, written_text, written_codes}
+use Rattle.h2_record.specs.Due.{settled_control_of, IsNextControl, WaitsControl, IsStarted, IsNextText, IsDueHeaders, IsDueData, IsLongest, IsNextCode, IsDueReset, IsDue}
 use Rattle.h2_conn.specs.Latest.{is_free_on, credit_if, latest_credit}
 use Rattle.h2_conn.specs.Held.{Held}
 use Rattle.h2_conn.specs.Stands.{OpenStands, FaultStands}
 use Rattle.h2_conn.specs.Waits.{waiting_text, WaitsLive, WaitsClosed, WaitsBy}
 use Rattle.h2_conn.specs.Parts.{part_frame}
 use Rattle.h2_conn.specs.Producing.{waiting_control, first_of, is_credit_on, send_on, is_held_by, bounds_in, IsTooLong, IsNextIn}
-use Rattle.h2_conn.proofs.BoolLemmas.{same-self, same-eq, by-test}
+use Rattle.h2_record.proofs.BoolLemmas.{same-self, same-eq, by-test}
 use Rattle.h2_conn.proofs.WaitingLemmas.{settled-waiting}
-use Rattle.h2_conn.proofs.SettingsLaws.{first_frame, settings-wait}
+use Rattle.h2_record.proofs.SettingsLaws.{first_frame, settings-wait}
 use Rattle.h2_conn.proofs.DueTexts.{block-octets}
 use Rattle.h2_conn.proofs.QuietTexts.{octets-wait, FieldsWait, HeadWaits, TailWaits, fields-wait, CodeWaits, code-waits}
 
@@ -72,7 +72,7 @@ quiet-last c r fault room s long frame due fits = quiet-control r c.control room
 -- ---- an open connection
 
 -- the latest credit isn't SETTINGS
-latest-other : (answers : List (ℕ × Waiting)) (owed : Option Owed) → first_of (option_to_list (credit_if answers owed)) ≡ Some control.Settings → ⊥
+latest-other : (answers : List (ℕ × Waiting)) (owed : Option OwedCredit) → first_of (option_to_list (credit_if answers owed)) ≡ Some control.Settings → ⊥
 latest-other answers None e = cc
 latest-other answers (Some owed) e = by (is_free_on answers owed.stream) e
   where

@@ -1,7 +1,7 @@
 -- What the first of the tokens that wait on a stream says of the parts that do.
 use Rattle.std.proofs.Common.{◌≡◌, ℕ, ◌≤◌, Bool, true, List, [], ◌∷◌, ◌++◌, map, length, drop, Option, None, Some, refl, sym, ap, arith}
 use Rattle.h2_answers.specs.declared.part.Head.{Head}
-use Rattle.h2_conn.specs.Texts.{Token, Fields, Octet, Aborted}
+use Rattle.h2_record.specs.Texts.{Token, Fields, Octet, Aborted}
 use Rattle.h2_conn.specs.Waits.{head_text, tail_text}
 
 -- the tokens of the parts

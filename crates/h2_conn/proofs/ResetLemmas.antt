@@ -6,20 +6,22 @@ use Rattle.h2_frames.specs.declared.frame.Frame.{Frame}
 use Rattle.h2_frames.specs.declared.frame.Frame.TheVariants as frames
 use Rattle.h2_streams.specs.Book.{Book, without, without_reset, remembering}
 use Rattle.h2_answers.specs.Waiting.{Waiting, waiting_on, nothing, with_reset as also_reset, ChangesOnly}
-use Rattle.h2_conn.specs.Record.{Record, In, any_in, any_out}
-use Rattle.h2_conn.specs.Live.{Reset, opens, ends, finishes, cancels, is_reset, is_live_with, remembered_in}
-use Rattle.h2_conn.specs.Resets.{reset_by, with_reset, resets_of, is_live}
-use Rattle.h2_conn.specs.Credits.{kept_of}
-use Rattle.h2_conn.specs.Texts.{codes_on, written_codes}
-use Rattle.h2_conn.specs.Fresh.{is_on}
-use Rattle.h2_conn.specs.Kept.{kept_on, KeptOnly}
+use Rattle.h2_record.specs.Record.{Record, In, any_in, any_out}
+use Rattle.h2_record.specs.Live.{Reset, opens, ends, finishes, cancels, is_reset, is_live_with, remembered_in}
+use Rattle.h2_record.specs.Resets.{reset_by, with_reset, resets_of, is_live}
+use Rattle.h2_record.specs.Credits.{kept_of}
+use Rattle.h2_record.specs.Texts.{codes_on, written_codes}
+use Rattle.h2_record.specs.Fresh.{is_on}
+use Rattle.h2_conn.specs.KeptCredit.{kept_on, KeptOnly}
 use Rattle.h2_conn.specs.Stands.{StreamsStand}
 use Rattle.h2_conn.specs.Waits.{WaitsBy, WaitsLive, WaitsClosed}
-use Rattle.h2_conn.specs.Taking.{settled_kept}
-use Rattle.h2_conn.proofs.BoolLemmas.{and-false, or-true, apart-flip, same-eq, same-self, by-test}
-use Rattle.h2_conn.proofs.StepLemmas.{kept-in}
-use Rattle.h2_conn.proofs.TouchLemmas.{TouchesOne, IsOf, away-of, open-other}
-use Rattle.h2_conn.proofs.CloseLemmas.{OnLive, touch-close, live-unreset, codes-none}
+use Rattle.h2_record.specs.Settling.{settled_kept}
+use Rattle.h2_record.proofs.BoolLemmas.{and-false, or-true, apart-flip, same-eq, same-self, by-test}
+use Rattle.h2_record.proofs.StepLemmas.{kept-in}
+use Rattle.h2_conn.proofs.TouchLemmas.{TouchesOne}
+use Rattle.h2_record.proofs.ApartLemmas.{IsOf, away-of, open-other}
+use Rattle.h2_conn.proofs.CloseLemmas.{OnLive, touch-close}
+use Rattle.h2_record.proofs.LiveLaws.{live-unreset, codes-none}
 
 -- what closes stays closed
 shut-more : (a b c d e f x y z : Bool) → (a && b && not c && not d && not (e && f)) ≡ false → (a && b && not (x || c) && not (y || d) && not ((z || e) && f)) ≡ false

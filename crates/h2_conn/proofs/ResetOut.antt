@@ -8,25 +8,26 @@ use Rattle.h2_answers.specs.declared.part.Part.TheVariants as part
 use Rattle.h2_answers.specs.Replies.{drop_bytes}
 use Rattle.h2_answers.specs.Waiting.{Waiting, waiting_on, nothing, ChangesOnly}
 use Rattle.h2_answers.specs.Due.{IsNext, IsAhead}
-use Rattle.h2_conn.specs.Record.{Record, Out, any_in}
-use Rattle.h2_conn.specs.Windows.{data_out}
-use Rattle.h2_conn.specs.Ids.{last_of, begun_of}
-use Rattle.h2_conn.specs.Live.{Reset, ends, is_live_with, entry_of}
-use Rattle.h2_conn.specs.Resets.{reset_behind, with_reset, resets_of, is_live}
-use Rattle.h2_conn.specs.Refusals.{first_reset}
-use Rattle.h2_conn.specs.Replies.{replies_of}
-use Rattle.h2_conn.specs.Credits.{most_waiting, kept_of}
-use Rattle.h2_conn.specs.Texts.{codes_on, written_codes}
+use Rattle.h2_record.specs.Record.{Record, Out, any_in}
+use Rattle.h2_record.specs.Windows.{data_out}
+use Rattle.h2_record.specs.Ids.{last_of, begun_of}
+use Rattle.h2_record.specs.Live.{Reset, ends, is_live_with, entry_of}
+use Rattle.h2_record.specs.Resets.{reset_behind, with_reset, resets_of, is_live}
+use Rattle.h2_record.specs.Refusals.{first_reset}
+use Rattle.h2_record.specs.Replies.{replies_of}
+use Rattle.h2_record.specs.Credits.{most_waiting, kept_of}
+use Rattle.h2_record.specs.Texts.{codes_on, written_codes}
 use Rattle.h2_conn.specs.Held.{Held}
 use Rattle.h2_conn.specs.Stands.{StreamsStand, OpenStands}
 use Rattle.h2_conn.specs.Waits.{WaitsBy, WaitsClosed}
-use Rattle.h2_conn.specs.Taking.{settled_control, settled_kept, Settled}
+use Rattle.h2_record.specs.Settling.{settled_control, settled_kept}
+use Rattle.h2_conn.specs.Taking.{Settled}
 use Rattle.h2_conn.specs.Parts.{part_frame, PartGoes, Closes, ResetsBy, ResetsOf}
-use Rattle.h2_conn.proofs.BoolLemmas.{lt-true, lt-false, same-self, by-test}
-use Rattle.h2_conn.proofs.LiveLemmas.{filter-same}
-use Rattle.h2_conn.proofs.CloseLemmas.{codes-none}
+use Rattle.h2_record.proofs.BoolLemmas.{lt-true, lt-false, same-self, by-test}
+use Rattle.h2_record.proofs.LiveLemmas.{filter-same}
+use Rattle.h2_record.proofs.LiveLaws.{codes-none}
 use Rattle.h2_conn.proofs.ResetLemmas.{waits-live, waits-here, waits-elsewhere}
-use Rattle.h2_conn.proofs.KeptLaws.{is_keeping, kept-out}
+use Rattle.h2_record.proofs.KeptLaws.{is_keeping, kept-out}
 use Rattle.h2_conn.proofs.OutLemmas.{GoesOn, streams-out}
 use Rattle.h2_conn.proofs.OutSteps.{stands-out}
 use Rattle.h2_conn.proofs.CloseOut.{OutOnLive, reset-shut-out, out-reset, changes-twice, stands-close}

@@ -12,21 +12,22 @@ use Rattle.h2_streams.specs.declared.stream.Stream.{Stream}
 use Rattle.h2_streams.specs.Book.{Book, find}
 use Rattle.h2_streams.specs.Shifts.{first_above, is_above, shifted_by, shifted}
 use Rattle.h2_answers.specs.Waiting.{waiting_on}
-use Rattle.h2_conn.specs.declared.control.Control.TheVariants as control
-use Rattle.h2_conn.specs.Record.{Record, In, sum_in}
-use Rattle.h2_conn.specs.Windows.{initial_after, initial_of, send_window_of, with_increment, initial_window_size}
-use Rattle.h2_conn.specs.Live.{is_live_with, entry_of}
-use Rattle.h2_conn.specs.Resets.{reset_by, is_live}
-use Rattle.h2_conn.specs.Faults.{flood_code}
-use Rattle.h2_conn.specs.Rules.{broken, code_if, pair_passes, passes_greatest}
+use Rattle.h2_record.specs.declared.control.Control.TheVariants as control
+use Rattle.h2_record.specs.Record.{Record, In, sum_in}
+use Rattle.h2_record.specs.Windows.{initial_after, initial_of, send_window_of, with_increment, initial_window_size}
+use Rattle.h2_record.specs.Live.{is_live_with, entry_of}
+use Rattle.h2_record.specs.Resets.{reset_by, is_live}
+use Rattle.h2_record.specs.Faults.{flood_code}
+use Rattle.h2_record.specs.Rules.{broken, code_if, pair_passes, passes_greatest}
 use Rattle.h2_conn.specs.Shift.{is_too_large}
 use Rattle.h2_conn.specs.Held.{Held}
 use Rattle.h2_conn.specs.Stands.{StreamsStand}
-use Rattle.h2_conn.specs.Taking.{Settled, early_of, late_fault, Fails, Takes}
-use Rattle.h2_conn.proofs.BoolLemmas.{same-self, apart-flip}
-use Rattle.h2_conn.proofs.FaultSplit.{breaks-late}
+use Rattle.h2_conn.specs.Taking.{Settled, early_of, Fails, Takes}
+use Rattle.h2_record.specs.Early.{late_fault}
+use Rattle.h2_record.proofs.BoolLemmas.{same-self, apart-flip}
+use Rattle.h2_conn.proofs.SettledFaults.{breaks-late}
 use Rattle.h2_conn.proofs.FloodLemmas.{count-flood}
-use Rattle.h2_conn.proofs.StepLemmas.{sound-in, controls-in, kept-in}
+use Rattle.h2_record.proofs.StepLemmas.{sound-in, controls-in, kept-in}
 use Rattle.h2_conn.proofs.QuietLemmas.{waits-in}
 use Rattle.h2_conn.proofs.CloseLemmas.{distinct-live}
 
@@ -96,6 +97,7 @@ fails-shift c r pairs streams s early over last = record {
   breaks = breaks-late c r (frames.Settings false pairs) s early ∙ settings-late c r pairs true s over;
   controls = s.controls;
   last = last ∙ s.streams.last;
+  headed = s.headed;
 }
 
 pub fails-settings : (c : Held) (r : Record) (pairs : List Pair) (streams : Book) (initial : ℕ) (fault : H2Fault) → Settled c r → early_of c (frames.Settings false pairs) ≡ None
@@ -105,6 +107,7 @@ fails-settings c r pairs streams initial fault s early fits over last = record {
   breaks = breaks-late c r (frames.Settings false pairs) s early ∙ settings-late c r pairs false s fits ∙ ap (λ fault. option_or fault None) over;
   controls = s.controls;
   last = last ∙ s.streams.last;
+  headed = s.headed;
 }
 
 -- a window begins with the initial size

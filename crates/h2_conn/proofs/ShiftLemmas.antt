@@ -8,12 +8,12 @@ use Rattle.h2_streams.specs.declared.stream.Stream.{Stream}
 use Rattle.h2_streams.specs.Book.{Book}
 use Rattle.h2_flow.specs.declared.window.Overflow.{Overflow}
 use Rattle.h2_streams.specs.Shifts.{Shifts, first_above, shifted_by, shifted, AllStayAboveLeast}
-use Rattle.h2_conn.specs.Windows.{initial_window_size, initial_after}
-use Rattle.h2_conn.specs.Rules.{pair_code, pairs_code, code_if}
+use Rattle.h2_record.specs.Windows.{initial_window_size, initial_after}
+use Rattle.h2_record.specs.Rules.{pair_code, pairs_code, code_if}
 use Rattle.h2_conn.specs.Shift.{is_too_large}
 use Rattle.h2_conn.specs.Within.{IsNearInitial}
-use Rattle.h2_conn.proofs.BoolLemmas.{or-first, or-second, by-test}
-use Rattle.h2_conn.proofs.OptionLemmas.{first-of, second-of}
+use Rattle.h2_record.proofs.BoolLemmas.{or-first, or-second, by-test}
+use Rattle.h2_record.proofs.OptionLemmas.{first-of, second-of}
 
 -- the initial size with the i-th pair
 pub initial_after-drop : (pairs : List Pair) (i last : ℕ) (d : Pair) → i < length pairs

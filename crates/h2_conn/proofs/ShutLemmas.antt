@@ -4,17 +4,18 @@ use Rattle.std.specs.Map.{keys_of}
 use Rattle.h2_frames.specs.declared.frame.Frame.{Frame}
 use Rattle.h2_streams.specs.Book.{Book, find}
 use Rattle.h2_answers.specs.Waiting.{Waiting, waiting_on}
-use Rattle.h2_conn.specs.Record.{Record, In}
-use Rattle.h2_conn.specs.Windows.{initial_of}
-use Rattle.h2_conn.specs.Ids.{last_of, begun_of}
-use Rattle.h2_conn.specs.Live.{Reset, remembered_in, entry_of}
-use Rattle.h2_conn.specs.Resets.{reset_by, with_reset, resets_of, is_live}
-use Rattle.h2_conn.specs.Fresh.{is_on}
+use Rattle.h2_record.specs.Record.{Record, In}
+use Rattle.h2_record.specs.Windows.{initial_of}
+use Rattle.h2_record.specs.Ids.{last_of, begun_of}
+use Rattle.h2_record.specs.Live.{Reset, remembered_in, entry_of}
+use Rattle.h2_record.specs.Resets.{reset_by, with_reset, resets_of, is_live}
+use Rattle.h2_record.specs.Fresh.{is_on}
 use Rattle.h2_conn.specs.Stands.{StreamsStand}
 use Rattle.h2_conn.specs.Waits.{WaitsBy, WaitsClosed}
-use Rattle.h2_conn.proofs.BoolLemmas.{apart-flip, same-eq, by-test}
-use Rattle.h2_conn.proofs.LiveLemmas.{filter-same}
-use Rattle.h2_conn.proofs.TouchLemmas.{TouchesOne, IsOf, away-of, live-other}
+use Rattle.h2_record.proofs.BoolLemmas.{apart-flip, same-eq, by-test}
+use Rattle.h2_record.proofs.LiveLemmas.{filter-same}
+use Rattle.h2_conn.proofs.TouchLemmas.{TouchesOne}
+use Rattle.h2_record.proofs.ApartLemmas.{IsOf, away-of, live-other}
 use Rattle.h2_conn.proofs.CloseLemmas.{found-none}
 
 -- What is known of a frame on a closed stream that was begun.

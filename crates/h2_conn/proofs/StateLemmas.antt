@@ -6,12 +6,12 @@ use Rattle.h2_streams.specs.declared.stream.StreamState.{StreamState}
 use Rattle.h2_streams.specs.declared.stream.StreamState.TheVariants as is
 use Rattle.h2_streams.specs.Book.{Book, find, is_idle, state_in, begun_state}
 use Rattle.h2_answers.specs.Waiting.{Waiting}
-use Rattle.h2_conn.specs.Record.{Record, any_in}
-use Rattle.h2_conn.specs.Live.{ends, entry_of, is_idle_above, remembered_in}
-use Rattle.h2_conn.specs.Ids.{last_of}
-use Rattle.h2_conn.specs.Resets.{resets_of, is_live, state_of}
+use Rattle.h2_record.specs.Record.{Record, any_in}
+use Rattle.h2_record.specs.Live.{ends, entry_of, is_idle_above, remembered_in}
+use Rattle.h2_record.specs.Ids.{last_of}
+use Rattle.h2_record.specs.Resets.{resets_of, is_live, state_of}
 use Rattle.h2_conn.specs.Stands.{StreamsStand}
-use Rattle.h2_conn.proofs.BoolLemmas.{by-test, lt-true}
+use Rattle.h2_record.proofs.BoolLemmas.{by-test, lt-true}
 
 -- the streams tell the record's state
 pub state-settled : (streams : Book) (answers : List (ℕ × Waiting)) (r : Record) (id : ℕ) → StreamsStand streams answers r → state_in streams id ≡ state_of r id

@@ -6,27 +6,29 @@ use Rattle.h2_frames.specs.declared.frame.Frame.TheVariants as frames
 use Rattle.h2_streams.specs.declared.stream.Stream.{Stream}
 use Rattle.h2_streams.specs.Book.{Book, find, without}
 use Rattle.h2_answers.specs.Waiting.{Waiting, waiting_on, nothing, ChangesOnly}
-use Rattle.h2_conn.specs.declared.control.Control.{Control}
-use Rattle.h2_conn.specs.declared.event.Event.TheVariants as event
-use Rattle.h2_conn.specs.Record.{Record, In, any_in}
-use Rattle.h2_conn.specs.Windows.{connection_window_of}
-use Rattle.h2_conn.specs.Ids.{last_of}
-use Rattle.h2_conn.specs.Blocks.{open_of, table_of}
-use Rattle.h2_conn.specs.Live.{Reset, ends, is_idle_above, entry_of}
-use Rattle.h2_conn.specs.Resets.{reset_by, with_reset, resets_of, is_live, is_open}
-use Rattle.h2_conn.specs.Texts.{codes_on}
-use Rattle.h2_conn.specs.Faults.{fault_by, flood_code, flood_of}
-use Rattle.h2_conn.specs.Credits.{kept_of, owed_of}
-use Rattle.h2_conn.specs.Control.{answer_to, frame_of, written_control_of}
-use Rattle.h2_conn.specs.Kept.{kept_on, KeptOnly}
+use Rattle.h2_record.specs.declared.control.Control.{Control}
+use Rattle.h2_record.specs.declared.event.Event.TheVariants as event
+use Rattle.h2_record.specs.Record.{Record, In, any_in}
+use Rattle.h2_record.specs.Windows.{connection_window_of}
+use Rattle.h2_record.specs.Ids.{last_of}
+use Rattle.h2_record.specs.Blocks.{open_of, table_of}
+use Rattle.h2_record.specs.Live.{Reset, ends, is_idle_above, entry_of}
+use Rattle.h2_record.specs.Resets.{reset_by, with_reset, resets_of, is_live, is_open}
+use Rattle.h2_record.specs.Texts.{codes_on}
+use Rattle.h2_record.specs.Faults.{fault_by, flood_code, flood_of}
+use Rattle.h2_record.specs.Credits.{kept_of, owed_of}
+use Rattle.h2_record.specs.Control.{answer_to, frame_of, written_control_of}
+use Rattle.h2_conn.specs.KeptCredit.{kept_on, KeptOnly}
 use Rattle.h2_conn.specs.Held.{Held}
 use Rattle.h2_conn.specs.Stands.{StreamsStand, OpenStands}
 use Rattle.h2_conn.specs.Waits.{WaitsBy, WaitsClosed}
-use Rattle.h2_conn.specs.Taking.{Settled, settled_kept, early_of, late_fault, Takes}
-use Rattle.h2_conn.proofs.BoolLemmas.{or-second, lt-false, by-test, same-eq}
-use Rattle.h2_conn.proofs.FaultLemmas.{reset-begun}
+use Rattle.h2_conn.specs.Taking.{Settled, early_of, Takes}
+use Rattle.h2_record.specs.Settling.{settled_kept}
+use Rattle.h2_record.specs.Early.{late_fault}
+use Rattle.h2_record.proofs.BoolLemmas.{or-second, lt-false, by-test, same-eq}
+use Rattle.h2_record.proofs.FaultLemmas.{reset-begun}
 use Rattle.h2_conn.proofs.FloodLemmas.{sound-flood, count-flood}
-use Rattle.h2_conn.proofs.StepLemmas.{sound-in, controls-in, kept-in}
+use Rattle.h2_record.proofs.StepLemmas.{sound-in, controls-in, kept-in}
 use Rattle.h2_conn.proofs.TouchLemmas.{TouchesOne, streams-touch}
 use Rattle.h2_conn.proofs.CloseLemmas.{OnLive}
 use Rattle.h2_conn.proofs.ShutLemmas.{OnShut, touch-shut}

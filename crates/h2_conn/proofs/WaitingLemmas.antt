@@ -13,26 +13,26 @@ use Rattle.h2_streams.specs.declared.stream.Stream.{Stream}
 use Rattle.h2_streams.specs.Book.{Book, find}
 use Rattle.h2_answers.specs.Replies.{drop_bytes}
 use Rattle.h2_answers.specs.Waiting.{Waiting, waiting_on, data_of}
-use Rattle.h2_conn.specs.declared.block.Owed.{Owed}
-use Rattle.h2_conn.specs.declared.control.Control.{Control}
-use Rattle.h2_conn.specs.declared.control.Control.TheVariants as control
-use Rattle.h2_conn.specs.Record.{Record, Broken}
-use Rattle.h2_conn.specs.Windows.{send_window_of, connection_window_of, data_out}
-use Rattle.h2_conn.specs.Live.{entry_of}
-use Rattle.h2_conn.specs.Resets.{is_live}
-use Rattle.h2_conn.specs.Replies.{replies_of, unwritten_of}
-use Rattle.h2_conn.specs.Faults.{first_fault_of}
-use Rattle.h2_conn.specs.Credits.{owed_of, given_of, is_free, most_waiting}
-use Rattle.h2_conn.specs.Control.{control_of, written_control_of, frame_of, due_after}
+use Rattle.h2_record.specs.declared.block.OwedCredit.{OwedCredit}
+use Rattle.h2_record.specs.declared.control.Control.{Control}
+use Rattle.h2_record.specs.declared.control.Control.TheVariants as control
+use Rattle.h2_record.specs.Record.{Record, Broken}
+use Rattle.h2_record.specs.Windows.{send_window_of, connection_window_of, data_out}
+use Rattle.h2_record.specs.Live.{entry_of}
+use Rattle.h2_record.specs.Resets.{is_live}
+use Rattle.h2_record.specs.Replies.{replies_of, unwritten_of}
+use Rattle.h2_record.specs.Faults.{first_fault_of}
+use Rattle.h2_record.specs.Credits.{owed_of, given_of, is_free, most_waiting}
+use Rattle.h2_record.specs.Control.{control_of, written_control_of, frame_of, due_after}
 use Rattle.h2_conn.specs.Latest.{is_free_on, credit_if, latest_credit}
-use Rattle.h2_conn.specs.Room.{room_in}
-use Rattle.h2_conn.specs.Due.{settled_control_of}
+use Rattle.h2_record.specs.Room.{room_in}
+use Rattle.h2_record.specs.Due.{settled_control_of}
 use Rattle.h2_conn.specs.Held.{Held}
 use Rattle.h2_conn.specs.Stands.{StreamsStand, OpenStands, FaultStands, StandsBy, Stands}
 use Rattle.h2_conn.specs.Waits.{WaitsBy}
 use Rattle.h2_conn.specs.Within.{IsNearInitial}
 use Rattle.h2_conn.specs.Producing.{waiting_control}
-use Rattle.h2_conn.proofs.StepLemmas.{controls-more}
+use Rattle.h2_record.proofs.StepLemmas.{controls-more}
 use Rattle.h2_conn.proofs.WithinLemmas.{near-found}
 
 -- a connection that stands for a record without a fault is open
@@ -59,7 +59,7 @@ credit-by : (b : Bool) (stream bytes : ℕ) → map frame_of (option_to_list (if
 credit-by true stream bytes = refl
 credit-by false stream bytes = refl
 
-credit-of : (streams : Book) (answers : List (ℕ × Waiting)) (r : Record) (owed : Option Owed) → StreamsStand streams answers r
+credit-of : (streams : Book) (answers : List (ℕ × Waiting)) (r : Record) (owed : Option OwedCredit) → StreamsStand streams answers r
     → map frame_of (option_to_list (credit_if answers owed)) ≡ given_of r owed
 credit-of streams answers r None s = refl
 credit-of streams answers r (Some owed) s =
@@ -87,6 +87,8 @@ faults-broken c r fault waiting s is =
     let goes : List Control = control.Goaway c.streams.last fault.code ∷ [] in
     record {
       met = ap (λ earlier. option_or earlier (Some fault)) s.sound;
+      begun = s.begun;
+      headed = s.headed;
       control = ap (λ controls. written_control_of r ++ map frame_of controls) is
           ∙ controls-more (written_control_of r) (control_of r ++ given_of r (owed_of r)) (c.control ++ latest) goes
           (controls-more (written_control_of r) (control_of r) c.control latest s.controls ∙ ap (λ given. control_of r ++ given) (latest-given c r s))

@@ -8,36 +8,38 @@ use Rattle.h2_streams.specs.declared.stream.Stream.{Stream}
 use Rattle.h2_streams.specs.declared.stream.StreamState.{StreamState}
 use Rattle.h2_streams.specs.declared.stream.StreamState.TheVariants as is
 use Rattle.h2_streams.specs.Book.{find}
-use Rattle.h2_conn.specs.declared.block.Owed.{Owed}
-use Rattle.h2_conn.specs.declared.control.Control.{Control}
-use Rattle.h2_conn.specs.declared.control.Control.TheVariants as control
-use Rattle.h2_conn.specs.Record.{Record, In, Out, Given, Whole, Broken, any_in, any_out, has_begun, sum_in, sum_out}
-use Rattle.h2_conn.specs.Windows.{first_window, with_increment, with_payload, receive_window_of}
-use Rattle.h2_conn.specs.Ids.{last_of}
-use Rattle.h2_conn.specs.Blocks.{open_of}
-use Rattle.h2_conn.specs.Live.{opens, ends, finishes, cancels, is_reset, is_live_with, is_idle_above, entry_of}
-use Rattle.h2_conn.specs.Resets.{reset_by, reset_behind, with_reset, resets_of, is_live, state_of}
-use Rattle.h2_conn.specs.Refusals.{body_refusal, first_reset}
-use Rattle.h2_conn.specs.Faults.{fault_by, first_fault_of}
-use Rattle.h2_conn.specs.Credits.{owed_of}
-use Rattle.h2_conn.specs.Control.{control_of, written_control_of, frame_of}
-use Rattle.h2_conn.specs.Kept.{kept_on}
+use Rattle.h2_record.specs.declared.block.OwedCredit.{OwedCredit}
+use Rattle.h2_record.specs.declared.control.Control.{Control}
+use Rattle.h2_record.specs.declared.control.Control.TheVariants as control
+use Rattle.h2_record.specs.Record.{Record, In, Out, Given, Whole, Broken, any_in, any_out, has_begun, sum_in, sum_out}
+use Rattle.h2_record.specs.Windows.{first_window, with_increment, with_payload, receive_window_of}
+use Rattle.h2_record.specs.Ids.{last_of}
+use Rattle.h2_record.specs.Blocks.{open_of}
+use Rattle.h2_record.specs.Live.{opens, ends, finishes, cancels, is_reset, is_live_with, is_idle_above, entry_of}
+use Rattle.h2_record.specs.Resets.{reset_by, reset_behind, with_reset, resets_of, is_live, state_of}
+use Rattle.h2_record.specs.Refusals.{body_refusal, first_reset}
+use Rattle.h2_record.specs.Faults.{fault_by, first_fault_of}
+use Rattle.h2_record.specs.Credits.{owed_of}
+use Rattle.h2_record.specs.Control.{control_of, written_control_of, frame_of}
+use Rattle.h2_conn.specs.KeptCredit.{kept_on}
 use Rattle.h2_conn.specs.Held.{Held}
 use Rattle.h2_conn.specs.Stands.{OpenStands}
-use Rattle.h2_conn.specs.Taking.{settled_control, early_fault, late_fault, Settled}
-use Rattle.h2_conn.proofs.BoolLemmas.{or-second, same-self, and-first, apart-above, lt-false, same-eq, by-test}
-use Rattle.h2_conn.proofs.OptionLemmas.{first-of, second-of}
-use Rattle.h2_conn.proofs.FaultLemmas.{not-even, body-begun}
-use Rattle.h2_conn.proofs.FaultSplit.{fault-split}
-use Rattle.h2_conn.proofs.StepLemmas.{owed-open}
+use Rattle.h2_record.specs.Settling.{settled_control}
+use Rattle.h2_record.specs.Early.{early_fault, late_fault}
+use Rattle.h2_conn.specs.Taking.{Settled}
+use Rattle.h2_record.proofs.BoolLemmas.{or-second, same-self, and-first, apart-above, lt-false, same-eq, by-test}
+use Rattle.h2_record.proofs.OptionLemmas.{first-of, second-of}
+use Rattle.h2_record.proofs.FaultLemmas.{not-even, body-begun}
+use Rattle.h2_record.proofs.FaultSplit.{fault-split}
+use Rattle.h2_record.proofs.StepLemmas.{owed-open}
 use Rattle.h2_conn.proofs.StateLemmas.{state-live, state-ended, state-closed, state-idle, risen-of}
-use Rattle.h2_conn.proofs.CloseLemmas.{live-unreset}
+use Rattle.h2_record.proofs.LiveLaws.{live-unreset}
 use Rattle.h2_conn.proofs.ResetLemmas.{is_of, is_reset-with, still-shut, reset-shut, remembered-reset}
 use Rattle.h2_conn.proofs.BodySteps.{made-body}
 use Rattle.h2_conn.proofs.HeaderSteps.{made-headers}
 use Rattle.h2_conn.proofs.WindowSteps.{live-zero}
-use Rattle.h2_conn.proofs.ControlLaws.{later-by}
-use Rattle.h2_conn.proofs.Ledger.{total, owed_on, total-append, total-allowed, ledger, settled-ledger}
+use Rattle.h2_record.proofs.ControlLaws.{later-by}
+use Rattle.h2_record.proofs.Ledger.{total, owed_on, total-append, total-allowed, ledger, settled-ledger}
 
 -- ---- a stream that lives lived before, unless the frame opens it
 
@@ -227,10 +229,10 @@ credit-fits c r stream add rest s stands first found =
     )
 
 -- the credit of the latest frame, beside what is kept
-owed-all : (owed : Option Owed) (one : Owed) → owed ≡ Some one → owed_on owed one.stream ≡ one.bytes
-owed-all owed one same = ap (λ (owed : Option Owed). owed_on owed one.stream) same ∙ (λ i. if same-self one.stream i then one.bytes else 0)
+owed-all : (owed : Option OwedCredit) (one : OwedCredit) → owed ≡ Some one → owed_on owed one.stream ≡ one.bytes
+owed-all owed one same = ap (λ (owed : Option OwedCredit). owed_on owed one.stream) same ∙ (λ i. if same-self one.stream i then one.bytes else 0)
 
-pub kept-fits : (c : Held) (r : Record) (owed : Owed) → OpenStands c r → c.owed ≡ Some owed → kept_on c.kept owed.stream + owed.bytes ≤ 2 ^ 31 - 1
+pub kept-fits : (c : Held) (r : Record) (owed : OwedCredit) → OpenStands c r → c.owed ≡ Some owed → kept_on c.kept owed.stream + owed.bytes ≤ 2 ^ 31 - 1
 kept-fits c r owed stands same =
     let id = owed.stream in
     let owing = sym stands.owing ∙ same in

@@ -8,26 +8,27 @@ use Rattle.h2_flow.specs.declared.window.Overflow.{Overflow}
 use Rattle.h2_streams.specs.declared.stream.Stream.{Stream}
 use Rattle.h2_streams.specs.Book.{Book, find, with_stream}
 use Rattle.h2_streams.specs.Calls.{Grants}
-use Rattle.h2_conn.specs.declared.event.Event.TheVariants as event
-use Rattle.h2_conn.specs.Record.{Record, In, any_in, any_out, sum_in, sum_out}
-use Rattle.h2_conn.specs.Windows.{initial_of, connection_window_of, send_window_of, with_increment, data_out, with_any_data}
-use Rattle.h2_conn.specs.Ids.{last_of}
-use Rattle.h2_conn.specs.Live.{Reset, opens, ends, finishes, cancels, is_reset, is_live_with, is_idle_above, entry_of}
-use Rattle.h2_conn.specs.Resets.{reset_by, with_reset, resets_of, is_live}
-use Rattle.h2_conn.specs.Refusals.{grant_refusal, first_reset}
-use Rattle.h2_conn.specs.Faults.{fault_by}
-use Rattle.h2_conn.specs.Rules.{broken, code_if}
-use Rattle.h2_conn.specs.Events.{event_by}
+use Rattle.h2_record.specs.declared.event.Event.TheVariants as event
+use Rattle.h2_record.specs.Record.{Record, In, any_in, any_out, sum_in, sum_out}
+use Rattle.h2_record.specs.Windows.{initial_of, connection_window_of, send_window_of, with_increment, data_out, with_any_data}
+use Rattle.h2_record.specs.Ids.{last_of}
+use Rattle.h2_record.specs.Live.{Reset, opens, ends, finishes, cancels, is_reset, is_live_with, is_idle_above, entry_of}
+use Rattle.h2_record.specs.Resets.{reset_by, with_reset, resets_of, is_live}
+use Rattle.h2_record.specs.Refusals.{grant_refusal, first_reset}
+use Rattle.h2_record.specs.Faults.{fault_by}
+use Rattle.h2_record.specs.Rules.{broken, code_if}
+use Rattle.h2_record.specs.Events.{event_by}
 use Rattle.h2_answers.specs.Replies.{drop_bytes}
-use Rattle.h2_conn.specs.Replies.{replies_of}
-use Rattle.h2_conn.specs.Kept.{KeptOnly}
+use Rattle.h2_record.specs.Replies.{replies_of}
+use Rattle.h2_conn.specs.KeptCredit.{KeptOnly}
 use Rattle.h2_conn.specs.Held.{Held}
-use Rattle.h2_conn.specs.Taking.{Settled, early_of, late_fault, Fails, Takes, Refuses}
-use Rattle.h2_conn.proofs.BoolLemmas.{and-false, same-self, by-test}
-use Rattle.h2_conn.proofs.OptionLemmas.{or-nothing}
-use Rattle.h2_conn.proofs.FaultLemmas.{window-begun}
-use Rattle.h2_conn.proofs.FaultSplit.{breaks-late}
-use Rattle.h2_conn.proofs.TouchLemmas.{IsOf}
+use Rattle.h2_conn.specs.Taking.{Settled, early_of, Fails, Takes, Refuses}
+use Rattle.h2_record.specs.Early.{late_fault}
+use Rattle.h2_record.proofs.BoolLemmas.{and-false, same-self, by-test}
+use Rattle.h2_record.proofs.OptionLemmas.{or-nothing}
+use Rattle.h2_record.proofs.FaultLemmas.{window-begun}
+use Rattle.h2_conn.proofs.SettledFaults.{breaks-late}
+use Rattle.h2_record.proofs.ApartLemmas.{IsOf}
 use Rattle.h2_conn.proofs.CloseLemmas.{OnLive, touch-keep, found-some}
 use Rattle.h2_conn.proofs.ShutLemmas.{OnShut, touch-shut}
 use Rattle.h2_conn.proofs.ResetLemmas.{still-shut, kept-shut, touch-reset, reset-shut, waits-live}
@@ -91,6 +92,7 @@ fails-connection c r add window s early over =
       breaks = breaks-late c r (frames.Window 0 add) s early ∙ connection-late r add true (lt-yes-int greatest (connection_window_of r +ℤ pos add) passes);
       controls = s.controls;
       last = s.streams.last;
+      headed = s.headed;
     }
 
 -- WINDOW_UPDATE on a stream

@@ -6,16 +6,16 @@ use Rattle.std.specs.Map.{lookup, remove_entry, set_value}
 use Rattle.h2_streams.specs.declared.stream.Stream.{Stream}
 use Rattle.h2_streams.specs.Book.{Book, find}
 use Rattle.h2_streams.specs.Calls.{Grants}
-use Rattle.h2_conn.specs.declared.block.OpenBlock.{OpenBlock}
-use Rattle.h2_conn.specs.declared.block.Owed.{Owed}
-use Rattle.h2_conn.specs.declared.control.Control.{Control}
-use Rattle.h2_conn.specs.Faults.{most_flood}
-use Rattle.h2_conn.specs.Rules.{pairs_code}
+use Rattle.h2_record.specs.declared.block.OpenBlock.{OpenBlock}
+use Rattle.h2_record.specs.declared.block.OwedCredit.{OwedCredit}
+use Rattle.h2_record.specs.declared.control.Control.{Control}
+use Rattle.h2_record.specs.Faults.{most_flood}
+use Rattle.h2_record.specs.Rules.{pairs_code}
 use Rattle.h2_conn.specs.Within.{IsWithin, IsNearInitial, IsSmallOwed, FitsFrame}
 use Rattle.h2_conn.specs.Counting.{owed_if}
 use Rattle.h2_frames.specs.declared.pairs.Pair.{Pair}
 use Rattle.h2_streams.specs.Shifts.{shifted}
-use Rattle.h2_conn.specs.Windows.{initial_after}
+use Rattle.h2_record.specs.Windows.{initial_after}
 use Rattle.h2_conn.proofs.ShiftLemmas.{last-small, near-shifted}
 
 pub near-removed : (initial id : ℕ) (es : List (ℕ × Stream)) → AllByRecursion (IsNearInitial initial) es → AllByRecursion (IsNearInitial initial) (remove_entry (nat_eq id) es)
@@ -36,7 +36,7 @@ near-set initial id stream (e ∷ es) near all = by (nat_eq id e.0) (near-set in
     by true rest = (near, all.1)
     by false rest = (all.0, rest)
 
-module _ (initial flood : ℕ) (streams streams' : Book) (waiting : List Control) (block : Option OpenBlock) (owed : Option Owed) (w : IsWithin initial streams waiting block owed flood) where
+module _ (initial flood : ℕ) (streams streams' : Book) (waiting : List Control) (block : Option OpenBlock) (owed : Option OwedCredit) (w : IsWithin initial streams waiting block owed flood) where
   pub within-removed : (id : ℕ) → streams'.live ≡ remove_entry (nat_eq id) streams.live → streams'.last ≡ streams.last → IsWithin initial streams' waiting block owed flood
   within-removed id removed last = record {
     small = w.small;
@@ -61,7 +61,7 @@ module _ (initial flood : ℕ) (streams streams' : Book) (waiting : List Control
   }
 
 -- another count
-pub within-flood : (initial flood more : ℕ) (streams : Book) (waiting : List Control) (block : Option OpenBlock) (owed : Option Owed) → IsWithin initial streams waiting block owed flood
+pub within-flood : (initial flood more : ℕ) (streams : Book) (waiting : List Control) (block : Option OpenBlock) (owed : Option OwedCredit) → IsWithin initial streams waiting block owed flood
     → more ≤ most_flood → IsWithin initial streams waiting block owed more
 within-flood initial flood more streams waiting block owed w few = record {
   small = w.small;
@@ -84,7 +84,7 @@ pub near-found : (initial id : ℕ) (es : List (ℕ × Stream)) (stream : Stream
 near-found initial id [] stream all found = absurd (cc)
 near-found initial id (e ∷ es) stream all found = found-near (nat_eq id e.0) initial e (lookup (nat_eq id) es) stream all.0 (near-found initial id es stream all.1) found
 
-module _ (initial flood id add : ℕ) (streams streams' : Book) (waiting : List Control) (block : Option OpenBlock) (owed : Option Owed) (w : IsWithin initial streams waiting block owed flood) where
+module _ (initial flood id add : ℕ) (streams streams' : Book) (waiting : List Control) (block : Option OpenBlock) (owed : Option OwedCredit) (w : IsWithin initial streams waiting block owed flood) where
   within-grant-of : (o : Option Stream) → find streams id ≡ o → is_some o ≡ true → IfSome o (Grants streams id add (Ok tt) streams') → IsWithin initial streams' waiting block owed flood
   within-grant-of None found there grants = absurd (true≢false (sym there))
   within-grant-of (Some stream) found there grants =
@@ -97,7 +97,7 @@ module _ (initial flood id add : ℕ) (streams streams' : Book) (waiting : List 
   within-grant there grants = within-grant-of (find streams id) refl there grants
 
 -- shifted windows, where the pairs of SETTINGS are good
-pub within-shift : (initial last flood flood' : ℕ) (pairs : List Pair) (streams streams' : Book) (waiting waiting' : List Control) (block : Option OpenBlock) (owed : Option Owed)
+pub within-shift : (initial last flood flood' : ℕ) (pairs : List Pair) (streams streams' : Book) (waiting waiting' : List Control) (block : Option OpenBlock) (owed : Option OwedCredit)
     → IsWithin initial streams waiting block owed flood → pairs_code pairs ≡ None → last ≡ initial_after initial pairs → streams' ≡ shifted streams (pos last -ℤ pos initial)
     → AllByRecursion FitsFrame waiting' → flood' ≤ most_flood → IsWithin last streams' waiting' block owed flood'
 within-shift initial last flood flood' pairs streams streams' waiting waiting' block owed w good is same fit few = record {
@@ -116,7 +116,7 @@ fit-push [] one fit fits = (fits, tt)
 fit-push (x ∷ waiting) one fit fits = (fit.0, fit-push waiting one fit.1 fits)
 
 -- other streams, whose windows are near
-pub within-streams : (initial flood : ℕ) (streams streams' : Book) (waiting : List Control) (block : Option OpenBlock) (owed owed' : Option Owed) → IsWithin initial streams waiting block owed flood
+pub within-streams : (initial flood : ℕ) (streams streams' : Book) (waiting : List Control) (block : Option OpenBlock) (owed owed' : Option OwedCredit) → IsWithin initial streams waiting block owed flood
     → AllByRecursion (IsNearInitial initial) streams'.live → streams'.last ≡ streams.last → IsSmallOwed owed' → IsWithin initial streams' waiting block owed' flood
 within-streams initial flood streams streams' waiting block owed owed' w near last credit = record {
   small = w.small;
@@ -128,7 +128,7 @@ within-streams initial flood streams streams' waiting block owed owed' w near la
   few = w.few;
 }
 
-pub owed-small : (stream counted : ℕ) (owed : Option Owed) → owed ≡ owed_if stream counted → stream < 2 ^ 31 → counted ≤ 16384 → IsSmallOwed owed
+pub owed-small : (stream counted : ℕ) (owed : Option OwedCredit) → owed ≡ owed_if stream counted → stream < 2 ^ 31 → counted ≤ 16384 → IsSmallOwed owed
 owed-small stream counted owed is small few = subst IsSmallOwed (sym is) (by (counted == 0))
   where
     by : (b : Bool) → IsSmallOwed (if b then None else Some (record { stream = stream; bytes = counted }))
@@ -136,7 +136,7 @@ owed-small stream counted owed is small few = subst IsSmallOwed (sym is) (by (co
     by false = (small, omega (arith, few))
 
 -- a new id
-pub within-begun : (initial flood id : ℕ) (streams streams' : Book) (waiting : List Control) (block : Option OpenBlock) (owed : Option Owed) → IsWithin initial streams waiting block owed flood
+pub within-begun : (initial flood id : ℕ) (streams streams' : Book) (waiting : List Control) (block : Option OpenBlock) (owed : Option OwedCredit) → IsWithin initial streams waiting block owed flood
     → (AllByRecursion (IsNearInitial initial) streams.live → AllByRecursion (IsNearInitial initial) streams'.live) → (streams.last < 2 ^ 31 → streams'.last < 2 ^ 31)
     → IsWithin initial streams' waiting block owed flood
 within-begun initial flood id streams streams' waiting block owed w near last = record {

@@ -7,16 +7,16 @@ use Rattle.std.proofs.lemmas.List.Folds.{list_any-append}
 use Rattle.h2_streams.specs.declared.stream.Stream.{Stream}
 use Rattle.h2_streams.specs.Book.{Book, find, with_stream}
 use Rattle.h2_streams.specs.Calls.{reset_in}
-use Rattle.h2_conn.specs.declared.block.OpenBlock.{OpenBlock}
-use Rattle.h2_conn.specs.declared.block.Owed.{Owed}
-use Rattle.h2_conn.specs.declared.control.Control.{Control}
-use Rattle.h2_conn.specs.declared.control.Control.TheVariants as control
+use Rattle.h2_record.specs.declared.block.OpenBlock.{OpenBlock}
+use Rattle.h2_record.specs.declared.block.OwedCredit.{OwedCredit}
+use Rattle.h2_record.specs.declared.control.Control.{Control}
+use Rattle.h2_record.specs.declared.control.Control.TheVariants as control
 use Rattle.h2_conn.specs.Within.{IsWithin, FitsFrame}
 use Rattle.h2_conn.specs.Producing.{CreditedBy, Leaves, send_on, is_credit_on, is_held_by}
 use Rattle.h2_conn.proofs.WithinLemmas.{within-set, within-removed, near-found}
 
 -- other control frames wait
-pub within-controls : (initial flood : ℕ) (streams : Book) (waiting waiting' : List Control) (block : Option OpenBlock) (owed : Option Owed) → IsWithin initial streams waiting block owed flood
+pub within-controls : (initial flood : ℕ) (streams : Book) (waiting waiting' : List Control) (block : Option OpenBlock) (owed : Option OwedCredit) → IsWithin initial streams waiting block owed flood
     → AllByRecursion FitsFrame waiting' → IsWithin initial streams waiting' block owed flood
 within-controls initial flood streams waiting waiting' block owed w fit = record {
   small = w.small;
@@ -31,7 +31,7 @@ within-controls initial flood streams waiting waiting' block owed w fit = record
 pub all-popped : (waiting : List Control) (x : Control) (rest : List Control) → waiting ≡ x ∷ rest → AllByRecursion FitsFrame waiting → FitsFrame x × AllByRecursion FitsFrame rest
 all-popped waiting x rest first fit = subst (λ (list : List Control). AllByRecursion FitsFrame list) first fit
 
-module _ (initial flood : ℕ) (streams streams' : Book) (waiting : List Control) (block : Option OpenBlock) (owed : Option Owed) (w : IsWithin initial streams waiting block owed flood) where
+module _ (initial flood : ℕ) (streams streams' : Book) (waiting : List Control) (block : Option OpenBlock) (owed : Option OwedCredit) (w : IsWithin initial streams waiting block owed flood) where
   credited-by : (stream add : ℕ) (found : Option Stream) → find streams stream ≡ found → CreditedBy found streams stream add streams' → IsWithin initial streams' waiting block owed flood
   credited-by stream add None e same = subst (λ (b : Book). IsWithin initial b waiting block owed flood) (sym same) w
   credited-by stream add (Some s) e (inl (fits, set)) =

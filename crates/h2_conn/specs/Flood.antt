@@ -1,9 +1,9 @@
 -- The count of frames that ask for nothing, with one frame more.
 use Rattle.std.specs.Prelude.{◌≡◌, ℕ, ◌+◌, ◌≤◌, nat_le, Bool, ◌&&◌, Option, Result, Ok, Err, Some, None, if◌then◌else◌}
 use Rattle.h2_frames.specs.declared.fault.H2Fault.{H2Fault}
-use Rattle.h2_conn.specs.Codes.{enhance_your_calm}
-use Rattle.h2_conn.specs.Faults.{most_flood}
-use Rattle.h2_conn.specs.Rules.{code_if, broken}
+use Rattle.h2_record.specs.Codes.{enhance_your_calm}
+use Rattle.h2_record.specs.Faults.{most_flood}
+use Rattle.h2_record.specs.Rules.{code_if, broken}
 
 -- the code, where the frame asks for nothing and is one too many
 abbrev pub over_code : Bool → (flood : ℕ) → Option ℕ

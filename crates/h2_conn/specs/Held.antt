@@ -4,9 +4,9 @@ use Rattle.hpack_blocks.specs.Answers.{Standing}
 use Rattle.h2_frames.specs.declared.fault.H2Fault.{H2Fault}
 use Rattle.h2_streams.specs.Book.{Book}
 use Rattle.h2_answers.specs.Waiting.{Waiting}
-use Rattle.h2_conn.specs.declared.block.OpenBlock.{OpenBlock}
-use Rattle.h2_conn.specs.declared.block.Owed.{Owed}
-use Rattle.h2_conn.specs.declared.control.Control.{Control}
+use Rattle.h2_record.specs.declared.block.OpenBlock.{OpenBlock}
+use Rattle.h2_record.specs.declared.block.OwedCredit.{OwedCredit}
+use Rattle.h2_record.specs.declared.control.Control.{Control}
 
 pub record Held : Type 0 where
   -- a connection error was met
@@ -26,7 +26,7 @@ pub record Held : Type 0 where
   -- the control frames that wait
   pub control : List Control
   -- the credit of the latest frame, and the credit that is kept, by stream
-  pub owed : Option Owed
+  pub owed : Option OwedCredit
   pub kept : List (ℕ × ℕ)
   -- frames that ask for nothing, since the latest that made a request whole
   pub flood : ℕ

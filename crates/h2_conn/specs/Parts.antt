@@ -12,9 +12,9 @@ use Rattle.h2_answers.specs.declared.part.Part.TheVariants as part
 use Rattle.h2_answers.specs.declared.part.Due.{Due}
 use Rattle.h2_answers.specs.Waiting.{nothing, ChangesOnly}
 use Rattle.h2_answers.specs.Due.{due_frame, waiting_behind}
-use Rattle.h2_conn.specs.declared.control.Control.TheVariants as control
-use Rattle.h2_conn.specs.Codes.{no_error}
-use Rattle.h2_conn.specs.Kept.{kept_on, KeptOnly}
+use Rattle.h2_record.specs.declared.control.Control.TheVariants as control
+use Rattle.h2_record.specs.Codes.{no_error}
+use Rattle.h2_conn.specs.KeptCredit.{kept_on, KeptOnly}
 use Rattle.h2_conn.specs.Latest.{is_free_on}
 use Rattle.h2_conn.specs.Held.{Held}
 use Rattle.h2_conn.specs.Taking.{Refuses}

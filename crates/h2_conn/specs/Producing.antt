@@ -9,11 +9,11 @@ use Rattle.h2_streams.specs.Book.{Book, find, with_stream}
 use Rattle.h2_answers.specs.Bounds.{Bounds, bounds_of}
 use Rattle.h2_answers.specs.Waiting.{nothing}
 use Rattle.h2_answers.specs.Due.{IsNextDue}
-use Rattle.h2_conn.specs.declared.control.Control.{Control}
-use Rattle.h2_conn.specs.declared.control.Control.TheVariants as control
+use Rattle.h2_record.specs.declared.control.Control.{Control}
+use Rattle.h2_record.specs.declared.control.Control.TheVariants as control
 use Rattle.h2_conn.specs.declared.next.Next.{Next}
 use Rattle.h2_conn.specs.declared.next.Next.TheVariants as next
-use Rattle.h2_conn.specs.Control.{frame_of}
+use Rattle.h2_record.specs.Control.{frame_of}
 use Rattle.h2_conn.specs.Latest.{latest_credit}
 use Rattle.h2_conn.specs.Held.{Held}
 

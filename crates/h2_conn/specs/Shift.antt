@@ -4,7 +4,7 @@ use Rattle.std.specs.List.{list_any}
 use Rattle.h2_frames.specs.declared.pairs.Pair.{Pair}
 use Rattle.h2_streams.specs.Book.{Book}
 use Rattle.h2_streams.specs.Shifts.{first_above, shifted}
-use Rattle.h2_conn.specs.Windows.{initial_window_size, initial_after}
+use Rattle.h2_record.specs.Windows.{initial_window_size, initial_after}
 
 -- the pair makes a send window pass the greatest
 abbrev pub is_too_large : Book → (initial : ℕ) → Pair → Bool

@@ -6,19 +6,19 @@ use Rattle.h2_frames.specs.declared.fault.H2Fault.{H2Fault}
 use Rattle.h2_streams.specs.Book.{Book, find}
 use Rattle.h2_answers.specs.Waiting.{Waiting, waiting_on}
 use Rattle.h2_frames.specs.declared.frame.Frame.{Frame}
-use Rattle.h2_conn.specs.declared.block.Owed.{Owed}
-use Rattle.h2_conn.specs.Record.{Record, has_begun}
-use Rattle.h2_conn.specs.Windows.{initial_of, connection_window_of}
-use Rattle.h2_conn.specs.Ids.{last_of}
-use Rattle.h2_conn.specs.Blocks.{open_of, table_of}
-use Rattle.h2_conn.specs.Live.{is_reset, remembered_in}
-use Rattle.h2_conn.specs.Resets.{resets_of, is_live, stream_of, live_of}
-use Rattle.h2_conn.specs.Faults.{first_fault_of, flood_of}
-use Rattle.h2_conn.specs.Credits.{owed_of, kept_of}
-use Rattle.h2_conn.specs.Control.{control_of, written_control_of, frame_of}
-use Rattle.h2_conn.specs.Texts.{has_headed}
-use Rattle.h2_conn.specs.Fresh.{is_spoken}
-use Rattle.h2_conn.specs.Kept.{kept_on}
+use Rattle.h2_record.specs.declared.block.OwedCredit.{OwedCredit}
+use Rattle.h2_record.specs.Record.{Record, has_begun}
+use Rattle.h2_record.specs.Windows.{initial_of, connection_window_of}
+use Rattle.h2_record.specs.Ids.{last_of}
+use Rattle.h2_record.specs.Blocks.{open_of, table_of}
+use Rattle.h2_record.specs.Live.{is_reset, remembered_in}
+use Rattle.h2_record.specs.Resets.{resets_of, is_live, stream_of, live_of}
+use Rattle.h2_record.specs.Faults.{first_fault_of, flood_of}
+use Rattle.h2_record.specs.Credits.{owed_of, kept_of}
+use Rattle.h2_record.specs.Control.{control_of, written_control_of, frame_of}
+use Rattle.h2_record.specs.Texts.{has_headed}
+use Rattle.h2_record.specs.Fresh.{is_spoken}
+use Rattle.h2_conn.specs.KeptCredit.{kept_on}
 use Rattle.h2_conn.specs.Held.{Held}
 use Rattle.h2_conn.specs.Waits.{WaitsBy}
 
@@ -34,7 +34,7 @@ pub record StreamsStand (streams : Book) (answers : List (ℕ × Waiting)) (r : 
 
 -- The control frames that went and those that wait are `control`; the credit of the latest frame and the kept credit are
 -- `owed` and `kept`.
-pub record StandsFor (c : Held) (r : Record) (control : List Frame) (owed : Option Owed) (kept : ℕ → ℕ) : Type 0 where
+pub record StandsFor (c : Held) (r : Record) (control : List Frame) (owed : Option OwedCredit) (kept : ℕ → ℕ) : Type 0 where
   pub sound : first_fault_of r ≡ None
   pub begun : c.has_begun ≡ has_begun r
   pub window : c.window ≡ connection_window_of r
@@ -51,9 +51,12 @@ pub record StandsFor (c : Held) (r : Record) (control : List Frame) (owed : Opti
 abbrev pub OpenStands : Held → Record → Type 0
 OpenStands c r = StandsFor c r (control_of r) (owed_of r) (kept_of r)
 
--- After a fault nothing waits on any stream, and nothing else is said.
+-- After a fault nothing waits on any stream; of the rest only this is said: the fault, whether a frame was taken, whether
+-- a header block went, and the control frames.
 pub record FaultStands (c : Held) (fault : H2Fault) (r : Record) : Type 0 where
   pub met : first_fault_of r ≡ Some fault
+  pub begun : c.has_begun ≡ has_begun r
+  pub headed : c.has_headed ≡ has_headed r
   pub control : written_control_of r ++ map frame_of c.control ≡ control_of r
   pub waits : c.answers ≡ []
 

@@ -4,60 +4,28 @@ use Rattle.h2_frames.specs.declared.frame.Frame.{Frame}
 use Rattle.h2_frames.specs.declared.frame.Frame.TheVariants as frames
 use Rattle.h2_frames.specs.declared.pairs.Pair.{Pair}
 use Rattle.h2_frames.specs.declared.fault.H2Fault.{H2Fault}
-use Rattle.h2_conn.specs.declared.block.OpenBlock.{OpenBlock}
-use Rattle.h2_conn.specs.declared.event.Event.{Event}
+use Rattle.h2_record.specs.declared.block.OpenBlock.{OpenBlock}
+use Rattle.h2_record.specs.declared.event.Event.{Event}
 use Rattle.h2_conn.specs.declared.taken.Taken.{Taken}
 use Rattle.h2_conn.specs.declared.taken.Taken.TheVariants as taken
-use Rattle.h2_conn.specs.Codes.{protocol_error}
-use Rattle.h2_conn.specs.Record.{Record, In}
-use Rattle.h2_conn.specs.Windows.{connection_window_of}
-use Rattle.h2_conn.specs.Ids.{last_of}
-use Rattle.h2_conn.specs.Resets.{reset_by, resets_of}
-use Rattle.h2_conn.specs.Faults.{fault_by, flood_code, flood_of}
-use Rattle.h2_conn.specs.Rules.{broken, code_if, first_broken, preface_code, is_outside, settings_code, even_code, idle_code, zero_code, grant_code, shift_code, block_code, size_code}
-use Rattle.h2_conn.specs.Blocks.{whole_block, block_with}
-use Rattle.h2_conn.specs.Credits.{owed_of, given_of, kept_of, kept_by}
-use Rattle.h2_conn.specs.Control.{control_of, written_control_of, frame_of}
-use Rattle.h2_conn.specs.Events.{event_by, events_of}
+use Rattle.h2_record.specs.Record.{Record, In}
+use Rattle.h2_record.specs.Ids.{last_of}
+use Rattle.h2_record.specs.Resets.{reset_by, resets_of}
+use Rattle.h2_record.specs.Faults.{fault_by}
+use Rattle.h2_record.specs.Control.{control_of, written_control_of, frame_of}
+use Rattle.h2_record.specs.Events.{event_by, events_of}
 use Rattle.h2_streams.specs.Book.{without_reset}
 use Rattle.h2_answers.specs.Waiting.{nothing, ChangesOnly}
-use Rattle.h2_conn.specs.Kept.{KeptOnly}
+use Rattle.h2_conn.specs.KeptCredit.{KeptOnly}
 use Rattle.h2_conn.specs.Held.{Held}
 use Rattle.h2_conn.specs.Stands.{StandsFor, OpenStands, StandsBy}
-
--- the control frames due when the next frame comes
-abbrev pub settled_control : Record → List Frame
-settled_control r = control_of r ++ given_of r (owed_of r)
-
--- the credit that is kept then
-abbrev pub settled_kept : Record → ℕ → ℕ
-settled_kept r id = kept_of r id + kept_by r (owed_of r) id
+use Rattle.h2_record.specs.Early.{early_fault}
+use Rattle.h2_record.specs.Settling.{settled_control, settled_kept}
+use Rattle.h2_record.specs.Texts.{has_headed}
 
 -- the credit of the latest frame is given or kept
 abbrev pub Settled : Held → Record → Type 0
 Settled c r = StandsFor c r (settled_control r) None (settled_kept r)
-
--- The rules that are tested before a frame changes anything: all but those of send windows, those of whole blocks, and
--- the count of frames that ask for nothing.
-unfoldable pub early_fault : (begun : Bool) → Option OpenBlock → (last : ℕ) → Frame → Option H2Fault
-early_fault begun block last frame = first_broken (
-    broken 7 (preface_code begun frame)
-    ∷ broken 8 (code_if (is_outside block frame) protocol_error)
-    ∷ broken 9 (settings_code frame)
-    ∷ broken 11 (even_code frame)
-    ∷ broken 12 (idle_code last frame)
-    ∷ broken 13 (zero_code frame)
-    ∷ [])
-
--- the other rules
-unfoldable pub late_fault : Record → Frame → Option H2Fault
-late_fault r frame = first_broken (
-    broken 10 (shift_code r frame)
-    ∷ broken 14 (grant_code (connection_window_of r) frame)
-    ∷ broken 15 (block_code r (whole_block r frame))
-    ∷ broken 16 (size_code (block_with r frame))
-    ∷ broken 17 (flood_code (flood_of r) frame)
-    ∷ [])
 
 abbrev pub early_of : Held → Frame → Option H2Fault
 early_of c frame = early_fault c.has_begun c.block c.streams.last frame
@@ -67,6 +35,7 @@ pub record Fails (r : Record) (frame : Frame) (fault : H2Fault) (c : Held) : Typ
   pub breaks : fault_by r frame ≡ Some fault
   pub controls : written_control_of r ++ map frame_of c.control ≡ settled_control r
   pub last : c.streams.last ≡ last_of r
+  pub headed : c.has_headed ≡ has_headed r
 
 -- The frame breaks no rule, tells this, and the connection has it.
 pub record Takes (r : Record) (frame : Frame) (event : Option Event) (c : Held) : Type 0 where

@@ -3,11 +3,11 @@ use Rattle.std.specs.Prelude.{◌≡◌, ℕ, Bool, true, false, List, [], ◌�
 use Rattle.std.specs.List.{concat}
 use Rattle.h2_answers.specs.declared.part.Head.{Head}
 use Rattle.h2_answers.specs.Waiting.{Waiting, nothing}
-use Rattle.h2_conn.specs.Record.{Record, any_in, any_out}
-use Rattle.h2_conn.specs.Live.{ends, finishes}
-use Rattle.h2_conn.specs.Resets.{resets_of}
-use Rattle.h2_conn.specs.Replies.{unwritten_of}
-use Rattle.h2_conn.specs.Texts.{Token, Fields, Octet, Aborted, given_text, written_text, codes_on, written_codes}
+use Rattle.h2_record.specs.Record.{Record, any_in, any_out}
+use Rattle.h2_record.specs.Live.{ends, finishes}
+use Rattle.h2_record.specs.Resets.{resets_of}
+use Rattle.h2_record.specs.Replies.{unwritten_of}
+use Rattle.h2_record.specs.Texts.{Token, Fields, Octet, Aborted, given_text, written_text, codes_on, written_codes}
 
 -- the text of what waits on a live stream
 abbrev pub head_text : Option Head → List Token

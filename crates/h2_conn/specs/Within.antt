@@ -3,11 +3,11 @@ use Rattle.std.specs.Prelude.{ℕ, ◌-◌, ◌^◌, ◌<◌, ◌≤◌, List, O
 use Rattle.std.specs.List.{AllByRecursion}
 use Rattle.h2_streams.specs.declared.stream.Stream.{Stream}
 use Rattle.h2_streams.specs.Book.{Book}
-use Rattle.h2_conn.specs.declared.block.OpenBlock.{OpenBlock}
-use Rattle.h2_conn.specs.declared.block.Owed.{Owed}
-use Rattle.h2_conn.specs.declared.control.Control.{Control}
-use Rattle.h2_conn.specs.declared.control.Control.TheVariants as control
-use Rattle.h2_conn.specs.Faults.{most_flood}
+use Rattle.h2_record.specs.declared.block.OpenBlock.{OpenBlock}
+use Rattle.h2_record.specs.declared.block.OwedCredit.{OwedCredit}
+use Rattle.h2_record.specs.declared.control.Control.{Control}
+use Rattle.h2_record.specs.declared.control.Control.TheVariants as control
+use Rattle.h2_record.specs.Faults.{most_flood}
 
 -- A stream's send window is at most 2^31-1 below the initial size: what went beyond the increments is at most what the
 -- initial size once was.
@@ -25,11 +25,11 @@ IsSmallBlock None = Unit {0}
 IsSmallBlock (Some block) = (length block.bytes ≤ 65536) × (block.continuations ≤ 64)
 
 -- the credit of one frame
-abbrev pub IsSmallOwed : Option Owed → Type 0
+abbrev pub IsSmallOwed : Option OwedCredit → Type 0
 IsSmallOwed None = Unit {0}
 IsSmallOwed (Some owed) = (owed.stream < 2 ^ 31) × (owed.bytes < 2 ^ 31)
 
-pub record IsWithin (initial : ℕ) (streams : Book) (waiting : List Control) (block : Option OpenBlock) (owed : Option Owed) (flood : ℕ) : Type 0 where
+pub record IsWithin (initial : ℕ) (streams : Book) (waiting : List Control) (block : Option OpenBlock) (owed : Option OwedCredit) (flood : ℕ) : Type 0 where
   pub small : initial < 2 ^ 31
   pub near : AllByRecursion (IsNearInitial initial) streams.live
   pub last : streams.last < 2 ^ 31

@@ -4,8 +4,8 @@ ghost use Rattle.std.specs.Prelude.{◌≡◌, ◌==◌, ◌++◌, option_to_lis
 ghost use Rattle.std.specs.List.{list_any};
 ghost use Rattle.h2_conn.specs.Producing.{is_credit_on, is_held_by, send_on};
 
-use crate::control::Control;
 use h2_answers::Limits;
+use h2_record::Control;
 use h2_streams::Streams;
 use std::collections::VecDeque;
 

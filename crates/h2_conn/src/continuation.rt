@@ -4,25 +4,20 @@ ghost use Rattle.std.specs.Prelude.{◌≡◌, ◌≤◌, ◌||◌, nat_lt, leng
 ghost use Rattle.h2_frames.specs.Sound.{IsStreamId};
 ghost use Rattle.h2_frames.specs.Header.{max_frame_size};
 ghost use Rattle.h2_frames.specs.declared.frame.Frame.TheVariants as frames;
-ghost use Rattle.h2_conn.specs.Blocks.{continued};
-ghost use Rattle.h2_conn.specs.Rules.{is_large};
-ghost use Rattle.h2_conn.specs.Counting.{Going};
+ghost use Rattle.h2_record.specs.Blocks.{continued};
+ghost use Rattle.h2_record.specs.Rules.{is_large};
+ghost use Rattle.h2_conn.specs.Counting.{ContinuationStep};
 ghost use Rattle.h2_conn.specs.Taking.{early_of, Taking};
 
-use crate::block::OpenBlock;
-use crate::codes::{COMPRESSION_ERROR, ENHANCE_YOUR_CALM, PROTOCOL_ERROR};
 use crate::conn::Conn;
-use crate::event::Event;
-use crate::hearing::{Heard, hear};
 use crate::taken::Taken;
+use crate::whole_block::{BlockTold, read_block};
 use h2_frames::H2Fault;
+use h2_record::codes::{COMPRESSION_ERROR, ENHANCE_YOUR_CALM, PROTOCOL_ERROR};
+use h2_record::limits::{MOST_BLOCK_BYTES, MOST_CONTINUATIONS};
+use h2_record::{Event, OpenBlock};
 use outside::{Blob, Memory};
 use std::alloc::Global;
-
-/// The most bytes of a header block, and the most CONTINUATION frames.
-const MOST_BYTES: usize = 65_536;
-
-const MOST_CONTINUATIONS: u32 = 64;
 
 /// A header block of too many bytes or frames (RFC 9113 section 10.5.1).
 const TOO_LARGE: H2Fault = H2Fault {
@@ -50,7 +45,7 @@ fn continued(block: OpenBlock, fragment: &[u8]) -> Result<OpenBlock, Memory>
 fn is_large(block: &OpenBlock) -> bool
     ensures { result ≡ is_large block.now }
 {
-    MOST_BYTES < block.bytes.len() || MOST_CONTINUATIONS < block.continuations
+    MOST_BLOCK_BYTES < block.bytes.len() || MOST_CONTINUATIONS < block.continuations
 }
 
 impl Conn {
@@ -78,7 +73,7 @@ impl Conn {
             self.block = Some(block);
             return Ok(Taken::Passes);
         }
-        let Some(heard) = hear(alloc, &mut self.decoder, &block)? else {
+        let Some(told) = read_block(alloc, &mut self.decoder, &block)? else {
             return Ok(Taken::Breaks(H2Fault {
                 code: COMPRESSION_ERROR,
                 rule: 15,
@@ -87,7 +82,7 @@ impl Conn {
         if is_large(&block) {
             return Ok(Taken::Breaks(TOO_LARGE));
         }
-        let taken = self.serve_block(alloc, stream, block.is_late, heard)?;
+        let taken = self.serve_block(alloc, stream, block.is_late, told)?;
         Ok(taken)
     }
 
@@ -97,17 +92,17 @@ impl Conn {
         alloc: Global,
         stream: u32,
         is_late: bool,
-        heard: Heard,
+        told: BlockTold,
     ) -> Result<Taken, Memory>
         requires { IsStreamId stream }
-        ensures { IfOk result (λ taken. Going self.old stream is_late heard taken self.new) }
+        ensures { IfOk result (λ taken. ContinuationStep self.old stream is_late told taken self.new) }
     {
         if !self.streams.is_live(stream) {
             return Ok(Taken::Passes);
         }
-        match heard {
-            Heard::Tells(event) => Ok(Taken::Tells(event)),
-            Heard::Malformed => {
+        match told {
+            BlockTold::Tells(event) => Ok(Taken::Tells(event)),
+            BlockTold::Malformed => {
                 let code = PROTOCOL_ERROR;
                 self.refuse(alloc, stream, code)?;
                 if is_late {

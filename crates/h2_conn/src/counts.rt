@@ -4,10 +4,10 @@ ghost use Rattle.std.specs.Prelude.{◌≡◌, ◌==◌, ◌≤◌, ◌<◌, ◌
 ghost use Rattle.std.specs.Int.{int_min};
 ghost use Rattle.h2_flow.specs.Range.{least};
 ghost use Rattle.h2_streams.specs.Book.{find};
-ghost use Rattle.h2_conn.specs.Record.{Record};
-ghost use Rattle.h2_conn.specs.Faults.{first_fault_of};
-ghost use Rattle.h2_conn.specs.Replies.{waiting_of};
-ghost use Rattle.h2_conn.specs.Room.{room_in};
+ghost use Rattle.h2_record.specs.Record.{Record};
+ghost use Rattle.h2_record.specs.Faults.{first_fault_of};
+ghost use Rattle.h2_record.specs.Replies.{waiting_of};
+ghost use Rattle.h2_record.specs.Room.{room_in};
 ghost use Rattle.h2_conn.specs.Stands.{Stands};
 
 use crate::conn::Conn;

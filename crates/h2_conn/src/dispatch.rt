@@ -2,12 +2,11 @@
 
 ghost use Rattle.std.specs.Prelude.{◌≡◌, None, IfOk};
 ghost use Rattle.h2_frames.specs.Sound.{IsFrame};
-ghost use Rattle.h2_frames.specs.declared.frame.Frame.TheVariants as frames;
 ghost use Rattle.h2_conn.specs.Taking.{early_of, Taking};
 
 use crate::conn::Conn;
 use crate::taken::Taken;
-use h2_frames::{Frame, Pairs};
+use h2_frames::Frame;
 use outside::Memory;
 use std::alloc::Global;
 
@@ -45,39 +44,5 @@ impl Conn {
             } => self.take_continuation(alloc, stream, whole, block),
             Frame::Unknown { kind, stream } => Ok(self.pass(&Frame::Unknown { kind, stream })),
         }
-    }
-
-    // SETTINGS; with ACK they are passed over.
-    fn serve_settings(&mut self, ack: bool, pairs: Pairs) -> Result<Taken, Memory>
-        requires { early_of self.old (frames.Settings ack pairs) ≡ None }
-        ensures { IfOk result (λ taken. Taking self.old (frames.Settings ack pairs) taken self.new) }
-    {
-        if ack {
-            return Ok(self.pass(&Frame::Settings { ack, pairs }));
-        }
-        self.take_settings(pairs.items())
-    }
-
-    // PING; with ACK it is passed over.
-    fn serve_ping(&mut self, ack: bool, octets: [u8; 8]) -> Result<Taken, Memory>
-        requires { early_of self.old (frames.Ping ack octets) ≡ None }
-        ensures { IfOk result (λ taken. Taking self.old (frames.Ping ack octets) taken self.new) }
-    {
-        if ack {
-            return Ok(self.pass(&Frame::Ping { ack, octets }));
-        }
-        self.take_ping(octets)
-    }
-
-    // WINDOW_UPDATE, of the connection or of a stream.
-    fn serve_window(&mut self, alloc: Global, stream: u32, add: u32) -> Result<Taken, Memory>
-        requires early { early_of self.old (frames.Window stream add) ≡ None }
-        requires frame { IsFrame (frames.Window stream add) }
-        ensures { IfOk result (λ taken. Taking self.old (frames.Window stream add) taken self.new) }
-    {
-        if stream == 0 {
-            return Ok(self.take_connection_window(add));
-        }
-        self.take_stream_window(alloc, stream, add)
     }
 }

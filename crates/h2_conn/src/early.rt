@@ -1,14 +1,15 @@
 //! The rules that a frame is tested by before it changes anything.
 
 ghost use Rattle.std.specs.Prelude.{◌≡◌};
-ghost use Rattle.h2_conn.specs.Rules.{broken, code_if, is_settings, is_outside, preface_code, pair_code, pairs_code, settings_code, even_code, idle_code, zero_code};
-ghost use Rattle.h2_conn.specs.Live.{is_idle_above};
+ghost use Rattle.h2_record.specs.Rules.{broken, code_if, is_settings, is_outside, preface_code, pair_code, pairs_code, settings_code, even_code, idle_code, zero_code};
+ghost use Rattle.h2_record.specs.Live.{is_idle_above};
 ghost use Rattle.h2_conn.specs.Taking.{early_of};
 
-use crate::block::OpenBlock;
-use crate::codes::{FLOW_CONTROL_ERROR, PROTOCOL_ERROR};
 use crate::conn::Conn;
 use h2_frames::{Frame, H2Fault, Pair};
+use h2_record::OpenBlock;
+use h2_record::codes::{FLOW_CONTROL_ERROR, PROTOCOL_ERROR};
+use h2_record::limits::GREATEST_WINDOW;
 
 /// SETTINGS_ENABLE_PUSH, SETTINGS_INITIAL_WINDOW_SIZE and SETTINGS_MAX_FRAME_SIZE (RFC 9113 section 6.5.2).
 const ENABLE_PUSH: u16 = 2;
@@ -16,9 +17,6 @@ const ENABLE_PUSH: u16 = 2;
 pub(crate) const INITIAL_WINDOW_SIZE: u16 = 4;
 
 const MAX_FRAME_SIZE: u16 = 5;
-
-/// The greatest window, in bytes (section 6.9.1).
-const GREATEST: u32 = 0x7fff_ffff;
 
 // The code, where the rule is broken.
 pub(crate) fn code_if(holds: bool, code: u32) -> Option<u32>
@@ -60,7 +58,7 @@ fn pair_code(pair: &Pair) -> Option<u32>
     if pair.id == ENABLE_PUSH {
         code_if(1 < pair.value, PROTOCOL_ERROR)
     } else if pair.id == INITIAL_WINDOW_SIZE {
-        code_if(GREATEST < pair.value, FLOW_CONTROL_ERROR)
+        code_if(GREATEST_WINDOW < pair.value, FLOW_CONTROL_ERROR)
     } else if pair.id == MAX_FRAME_SIZE {
         code_if(
             pair.value < 16_384 || 16_777_215 < pair.value,
@@ -140,7 +138,7 @@ fn broken(rule: u8, code: Option<u32>) -> Option<H2Fault>
 
 impl Conn {
     // The least of the early rules that the frame breaks.
-    #[tactic(auto, unfolding(crate::specs::Taking::early_fault))]
+    #[tactic(auto, unfolding(h2_record::specs::Early::early_fault))]
     pub(crate) fn early_fault(&self, frame: &Frame) -> Option<H2Fault>
         ensures { result ≡ early_of self.now frame.now }
     {

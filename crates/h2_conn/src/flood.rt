@@ -1,14 +1,12 @@
 //! The count of frames that ask for nothing.
 
 ghost use Rattle.std.specs.Prelude.{◌≡◌, ◌≤◌, ◌+◌, nat_le, if◌then◌else◌, None, Some, true, ◌==◌, ◌&&◌, not};
-ghost use Rattle.h2_conn.specs.Faults.{is_flood, most_flood};
+ghost use Rattle.h2_record.specs.Faults.{is_flood, most_flood};
 ghost use Rattle.h2_conn.specs.Flood.{Counts};
 
-use crate::codes::ENHANCE_YOUR_CALM;
 use h2_frames::{Frame, H2Fault};
-
-/// How many frames that ask for nothing may come in a row.
-const MOST_FLOOD: u32 = 100_000;
+use h2_record::codes::ENHANCE_YOUR_CALM;
+use h2_record::limits::MOST_FLOOD;
 
 // Whether the frame asks for nothing.
 pub(crate) fn is_flood(frame: &Frame) -> bool

@@ -8,15 +8,16 @@ ghost use Rattle.h2_frames.specs.Header.{max_frame_size};
 ghost use Rattle.h2_frames.specs.Sound.{IsStreamId};
 ghost use Rattle.h2_streams.specs.Book.{find};
 ghost use Rattle.h2_answers.specs.Waiting.{nothing, waiting_on, IsOpenEnded};
-ghost use Rattle.h2_conn.specs.Record.{Record, Given, Whole, Broken, Head, Reply, Tail, Abort};
+ghost use Rattle.h2_record.specs.Record.{Record, Given, Whole, Broken, Head, Reply, Tail, Abort};
+ghost use Rattle.h2_record.specs.Faults.{first_fault_of};
 ghost use Rattle.h2_conn.specs.Stands.{Stands};
 ghost use Rattle.h2_conn.specs.Latest.{latest_credit};
 ghost use Rattle.h2_conn.specs.Within.{FitsFrame};
 
 use crate::conn::Conn;
-use crate::control::Control;
-use crate::take::MOST_WAITING;
 use h2_frames::H2Fault;
+use h2_record::Control;
+use h2_record::limits::MOST_WAITING;
 use h2_streams::Streams;
 use hpack_blocks::{Field, write_block};
 use outside::{Blob, Memory};
@@ -166,6 +167,14 @@ impl Conn {
         } else {
             None
         }
+    }
+
+    /// The connection error that was met, if one was: the code of the first frame that broke a rule, and the least rule
+    /// that it broke, as docs/HTTP2.md numbers them.
+    pub fn first_fault(&self) -> Option<H2Fault>
+        ensures { (r : Record) → Stands self.now r → result ≡ first_fault_of r }
+    {
+        self.fault
     }
 
     /// The latest frame made a request whole. The count of frames that ask for nothing starts anew.

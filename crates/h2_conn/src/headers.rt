@@ -6,17 +6,16 @@ ghost use Rattle.h2_frames.specs.Header.{max_frame_size};
 ghost use Rattle.h2_frames.specs.declared.frame.Frame.TheVariants as frames;
 ghost use Rattle.h2_streams.specs.declared.stream.StreamState.TheVariants as is;
 ghost use Rattle.h2_streams.specs.Book.{state_in};
-ghost use Rattle.h2_conn.specs.Counting.{RefusesLate, Heading};
+ghost use Rattle.h2_conn.specs.Counting.{RefusesLate, HeadersStep};
 ghost use Rattle.h2_conn.specs.Taking.{early_of, Taking};
 
-use crate::block::OpenBlock;
-use crate::codes::{COMPRESSION_ERROR, PROTOCOL_ERROR, REFUSED_STREAM, STREAM_CLOSED};
 use crate::conn::Conn;
-use crate::event::Event;
-use crate::hearing::{Heard, hear};
 use crate::taken::Taken;
 use crate::trailing::{begin, trail};
+use crate::whole_block::{BlockTold, read_block};
 use h2_frames::H2Fault;
+use h2_record::codes::{COMPRESSION_ERROR, PROTOCOL_ERROR, REFUSED_STREAM, STREAM_CLOSED};
+use h2_record::{Event, OpenBlock};
 use h2_streams::StreamState;
 use outside::{Blob, Memory};
 use std::alloc::Global;
@@ -51,13 +50,13 @@ impl Conn {
             return Ok(taken);
         }
         self.block = None;
-        let Some(heard) = hear(alloc, &mut self.decoder, &block)? else {
+        let Some(told) = read_block(alloc, &mut self.decoder, &block)? else {
             return Ok(Taken::Breaks(H2Fault {
                 code: COMPRESSION_ERROR,
                 rule: 15,
             }));
         };
-        let taken = self.serve_headers(alloc, stream, ended, Some(heard))?;
+        let taken = self.serve_headers(alloc, stream, ended, Some(told))?;
         Ok(taken)
     }
 
@@ -67,15 +66,15 @@ impl Conn {
         alloc: Global,
         stream: u32,
         ended: bool,
-        heard: Option<Heard>,
+        told: Option<BlockTold>,
     ) -> Result<Taken, Memory>
         requires odd { (stream % 2 == 0) ≡ false }
         requires stream { IsStreamId stream }
-        ensures { IfOk result (λ taken. Heading self.old stream ended heard taken self.new) }
+        ensures { IfOk result (λ taken. HeadersStep self.old stream ended told taken self.new) }
     {
         match self.streams.state_of(stream) {
-            StreamState::Idle => self.open(alloc, stream, ended, heard),
-            StreamState::Live => self.trail(alloc, stream, ended, heard),
+            StreamState::Idle => self.open(alloc, stream, ended, told),
+            StreamState::Live => self.trail(alloc, stream, ended, told),
             StreamState::Ended => {
                 let code = STREAM_CLOSED;
                 self.refuse(alloc, stream, code)?;
@@ -106,22 +105,22 @@ impl Conn {
         alloc: Global,
         stream: u32,
         ended: bool,
-        heard: Option<Heard>,
+        told: Option<BlockTold>,
     ) -> Result<Taken, Memory>
         requires idle { state_in self.old.streams stream ≡ is.Idle }
         requires odd { (stream % 2 == 0) ≡ false }
         requires stream { IsStreamId stream }
-        ensures { IfOk result (λ taken. Heading self.old stream ended heard taken self.new) }
+        ensures { IfOk result (λ taken. HeadersStep self.old stream ended told taken self.new) }
     {
         let opens = begin(alloc, &mut self.streams, stream, self.initial, ended)?;
         if !opens {
             self.answers.reset(alloc, stream, REFUSED_STREAM)?;
             return Ok(Taken::Passes);
         }
-        match heard {
+        match told {
             None => Ok(Taken::Passes),
-            Some(Heard::Tells(event)) => Ok(Taken::Tells(event)),
-            Some(Heard::Malformed) => {
+            Some(BlockTold::Tells(event)) => Ok(Taken::Tells(event)),
+            Some(BlockTold::Malformed) => {
                 self.refuse(alloc, stream, PROTOCOL_ERROR)?;
                 Ok(Taken::Passes)
             }
@@ -134,14 +133,14 @@ impl Conn {
         alloc: Global,
         stream: u32,
         ended: bool,
-        heard: Option<Heard>,
+        told: Option<BlockTold>,
     ) -> Result<Taken, Memory>
         requires live { state_in self.old.streams stream ≡ is.Live }
         requires stream { IsStreamId stream }
-        ensures { IfOk result (λ taken. Heading self.old stream ended heard taken self.new) }
+        ensures { IfOk result (λ taken. HeadersStep self.old stream ended told taken self.new) }
     {
-        match heard {
-            Some(Heard::Malformed) => {
+        match told {
+            Some(BlockTold::Malformed) => {
                 let code = PROTOCOL_ERROR;
                 self.refuse(alloc, stream, code)?;
                 Ok(Taken::Tells(Event::Reset { stream, code }))
@@ -150,7 +149,7 @@ impl Conn {
                 trail(&mut self.streams, &mut self.kept, stream, ended);
                 Ok(Taken::Passes)
             }
-            Some(Heard::Tells(event)) => {
+            Some(BlockTold::Tells(event)) => {
                 trail(&mut self.streams, &mut self.kept, stream, ended);
                 Ok(Taken::Tells(event))
             }

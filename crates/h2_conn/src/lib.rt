@@ -2,42 +2,45 @@
 //! frames out (RFC 9113).
 //!
 //! - [`Conn`] is the connection. It takes the client's frames one by one, and keeps the streams, the windows, the
-//!   header block that isn't whole, the table of HPACK, and what is due to be written, which it gives frame by frame.
+//!   header block that isn't whole, the table of HPACK, and what is due to be written, which it gives frame by frame, or
+//!   appends to a buffer of the caller's as long as there is room.
 //! - [`Event`] is what a frame tells: a request or a part of one, a reset, or a connection error.
 //!
-//! The definitions speak of a record: the frames that came and went, newest first, with marks for what the caller gave
-//! (`specs/Record`). `specs/Rules` and `specs/Faults` have the connection errors, `specs/Refusals` and `specs/Resets` the
-//! resets by the server, `specs/Events` what a frame tells, `specs/Control` and `specs/Credits` the control frames that
-//! are due, and `specs/Due` which frame may be written next. `specs/Waits` and `specs/Stands` say what a connection holds
-//! for a record, and `specs/Produces` what a call gives to be written. docs/HTTP2.md numbers the rules.
+//! The definitions of a record (the frames that came and went, newest first, with marks for what the caller gave) stand
+//! in h2_record. Here `specs/Held` says what a connection holds, `specs/Waits` and `specs/Stands` that it is what the
+//! record says, `specs/Taking` and `specs/Counting` the steps of a frame that comes, and `specs/Produces` and
+//! `specs/Fills` what a call gives to be written. docs/HTTP2.md numbers the rules.
 #![tactic(auto)]
 
-mod block;
-mod body;
 mod bounds;
 mod closing;
-mod codes;
 mod conn;
 mod continuation;
 mod control;
 mod counts;
+mod data;
 mod dispatch;
 mod early;
-mod event;
+mod fill;
 mod flood;
 mod giving;
 mod headers;
-mod hearing;
-mod kept;
+mod kept_credit;
 mod may;
 mod next;
 mod parts;
+mod passed;
 mod payload;
+mod ping;
 mod produce;
+mod rst_stream;
+mod settings;
 mod shift;
 mod take;
 mod taken;
 mod trailing;
+mod whole_block;
+mod window_update;
 
 pub use conn::Conn;
-pub use event::Event;
+pub use h2_record::Event;

@@ -1,43 +1,56 @@
 //! The parts of an answer that go.
 
-ghost use Rattle.std.specs.Prelude.{◌≡◌, ◌<◌, ◌^◌, IsSome, IfOk, OnOk, true};
+ghost use Rattle.std.specs.Prelude.{◌≡◌, ◌<◌, ◌^◌, ◌++◌, IsSome, OnOk, OnErr, true};
 ghost use Rattle.h2_frames.specs.Sound.{IsStreamId};
 ghost use Rattle.h2_streams.specs.Book.{find};
 ghost use Rattle.h2_streams.specs.Calls.{reset_in};
 ghost use Rattle.h2_answers.specs.declared.part.Part.TheVariants as part;
 ghost use Rattle.h2_answers.specs.Due.{IsAhead};
-ghost use Rattle.h2_conn.specs.Parts.{PartTaken, PartGoes, LeavesPart, IsWithinWindows, Closes, Finishes, ResetsOf, Frees, Spends};
+ghost use Rattle.h2_frames.specs.Spelling.{spelling};
+ghost use Rattle.h2_conn.specs.Appended.{BeginsAs};
+ghost use Rattle.h2_conn.specs.Parts.{part_frame, PartTaken, PartGoes, LeavesPart, IsWithinWindows, Closes, Finishes, ResetsOf, Frees, Spends};
 
-use crate::codes::NO_ERROR;
 use crate::conn::Conn;
-use crate::control::Control;
 use crate::produce::counted;
-use crate::take::MOST_WAITING;
 use h2_answers::{Due, Part};
+use h2_record::Control;
+use h2_record::codes::NO_ERROR;
+use h2_record::limits::MOST_WAITING;
 use h2_streams::StreamState;
-use outside::{Blob, Memory};
+use outside::Memory;
 use std::alloc::Global;
 
 impl Conn {
-    // A part of an answer goes, which is next on its stream and within the windows.
-    pub(crate) fn produce_part(&mut self, alloc: Global, due: Due) -> Result<Blob, Memory>
+    // A part of an answer goes, which is next on its stream and within the windows: its frame is appended. Where memory
+    // is refused, some of `out` may be appended.
+    pub(crate) fn produce_part(
+        &mut self,
+        alloc: Global,
+        out: &mut Vec<u8>,
+        due: Due,
+    ) -> Result<(), Memory>
         requires ahead { IsAhead self.old.answers due }
         requires windows { IsWithinWindows self.old due.stream due.part }
-        ensures { IfOk result (λ bytes. PartGoes self.old due bytes self.new) }
+        ensures spelled { OnOk result (out.new.items ≡ out.old.items ++ spelling (part_frame self.old due)) }
+        ensures goes { OnOk result (PartGoes self.old due (spelling (part_frame self.old due)) self.new) }
+        ensures err { OnErr result (BeginsAs out.old.items out.new.items) }
     {
-        let bytes = self.take_part(alloc, due)?;
+        self.take_part(out, due)?;
         self.leave_part(alloc, due)?;
-        Ok(bytes)
+        Ok(())
     }
 
     // Its bytes are taken from what waits.
-    fn take_part(&mut self, alloc: Global, due: Due) -> Result<Blob, Memory>
+    fn take_part(&mut self, out: &mut Vec<u8>, due: Due) -> Result<(), Memory>
         requires { IsAhead self.old.answers due }
-        ensures { IfOk result (λ bytes. PartTaken self.old due bytes self.new) }
+        ensures spelled { OnOk result (out.new.items ≡ out.old.items ++ spelling (part_frame self.old due)) }
+        ensures taken { OnOk result (PartTaken self.old due (spelling (part_frame self.old due)) self.new) }
+        ensures err { OnErr result (BeginsAs out.old.items out.new.items) }
     {
-        let bytes = self.answers.take(alloc, due, !self.has_headed)?;
-        self.unwritten = counted(self.unwritten, &bytes)?;
-        Ok(bytes)
+        let before = out.len();
+        self.answers.take_into(out, due, !self.has_headed)?;
+        self.unwritten = counted(self.unwritten, out.len() - before)?;
+        Ok(())
     }
 
     // What it leaves behind itself.

@@ -1,25 +1,27 @@
 //! Producing the bytes that are written.
 
-ghost use Rattle.std.specs.Prelude.{◌≡◌, ◌+◌, ◌<◌, ◌≤◌, true, not, length, IsSome, None, Some, IfOk, OnOk, OnErr};
+ghost use Rattle.std.specs.Prelude.{◌≡◌, ◌==◌, ◌+◌, ◌<◌, ◌≤◌, true, false, not, length, IsSome, None, Some, IfOk, OnOk, OnErr};
 ghost use Rattle.h2_answers.specs.Due.{IsNextDue};
-ghost use Rattle.h2_conn.specs.Produces.{Produces};
+ghost use Rattle.h2_conn.specs.Appended.{Appended, BeginsAs};
+ghost use Rattle.h2_conn.specs.Produces.{Goes, Rests, ProducesInto};
 ghost use Rattle.h2_conn.specs.Producing.{first_of, waiting_control, bounds_in, IsNextIn, FitsTo, Leaves, ControlGoes};
 
 use crate::bounds::StreamBounds;
 use crate::conn::Conn;
-use crate::control::{Control, len_of, spell};
+use crate::control::{len_of, put_control};
 use crate::next::Next;
 use h2_answers::Due;
+use h2_record::Control;
 use h2_streams::Streams;
 use outside::{Blob, Memory};
 use std::alloc::Global;
 use std::collections::VecDeque;
 
 // The count of unwritten bytes with those of a frame.
-pub(crate) fn counted(unwritten: u64, bytes: &Blob) -> Result<u64, Memory>
-    ensures { IfOk result (λ sum. sum ≡ unwritten + length bytes.now) }
+pub(crate) fn counted(unwritten: u64, len: usize) -> Result<u64, Memory>
+    ensures { IfOk result (λ sum. sum ≡ unwritten + len) }
 {
-    unwritten.checked_add(bytes.len() as u64).ok_or(Memory)
+    unwritten.checked_add(len as u64).ok_or(Memory)
 }
 
 // WINDOW_UPDATE on a live stream lets more come on it. No more is given than came before, so that the window holds it.
@@ -64,68 +66,93 @@ impl Conn {
     /// Where memory is refused, as where more than 2^64-1 bytes would be unwritten, every further call of `take` and
     /// `produce` is answered so.
     pub fn produce(&mut self, alloc: Global, room: u32) -> Result<Blob, Memory>
-        ensures produced { IfOk result (λ bytes. Produces self.old room bytes self.new) }
+        ensures goes { IfOk result (λ bytes. (length bytes == 0) ≡ false → Goes self.old room bytes self.new) }
+        ensures rests { IfOk result (λ bytes. (length bytes == 0) ≡ true → Rests self.old room self.new) }
+        ensures lost { OnErr result (self.new.is_lost ≡ true) }
+        ensures stays_lost { self.old.is_lost ≡ true → OnOk result ⊥ }
+    {
+        let mut bytes = Vec::new(alloc);
+        self.produce_into(alloc, &mut bytes, room)?;
+        Ok(Blob::from_vec(bytes))
+    }
+
+    /// The same, appended to `out`, and whether there was a frame. Where memory is refused, `out` is as it was.
+    ///
+    /// Each byte of a reply is copied once, and no memory is asked for but what `out` grows by, what the frames wait in
+    /// that this one calls for, and two pairs for the server's first SETTINGS.
+    pub fn produce_into(
+        &mut self,
+        alloc: Global,
+        out: &mut Vec<u8>,
+        room: u32,
+    ) -> Result<bool, Memory>
+        ensures produced { IfOk result (λ went. ProducesInto self.old room went out.old.items out.new.items self.new) }
+        ensures same { OnErr result (out.new.items ≡ out.old.items) }
         ensures lost { OnErr result (self.new.is_lost ≡ true) }
         ensures stays_lost { self.old.is_lost ≡ true → OnOk result ⊥ }
     {
         if self.is_lost {
             return Err(Memory);
         }
-        match self.produce_next(alloc, room) {
-            Ok(bytes) => Ok(bytes),
+        let before = out.len();
+        match self.produce_next(alloc, out, room) {
+            Ok(went) => Ok(went),
             Err(Memory) => {
                 self.is_lost = true;
+                out.truncate(before);
                 Err(Memory)
             }
         }
     }
 
-    // The same, where memory wasn't refused before.
-    fn produce_next(&mut self, alloc: Global, room: u32) -> Result<Blob, Memory>
-        ensures { IfOk result (λ bytes. Produces self.old room bytes self.new) }
+    // The same, where memory wasn't refused before. Where it is now, some of `out` may be appended.
+    fn produce_next(&mut self, alloc: Global, out: &mut Vec<u8>, room: u32) -> Result<bool, Memory>
+        ensures ok { IfOk result (λ went. ProducesInto self.old room went out.old.items out.new.items self.new) }
+        ensures err { OnErr result (BeginsAs out.old.items out.new.items) }
     {
         if self.fault.is_some() {
-            let bytes = self.produce_last(alloc, room)?;
-            return Ok(bytes);
+            return self.produce_last(alloc, out, room);
         }
         match self.next(room) {
-            Next::Nothing => Ok(Blob::from_vec(Vec::new(alloc))),
+            Next::Nothing => Ok(false),
             Next::Control => {
                 self.settle()?;
-                let bytes = self.produce_control(alloc)?;
-                Ok(bytes)
+                self.produce_control(alloc, out)?;
+                Ok(true)
             }
             Next::Part(due) => {
                 self.settle()?;
-                let bytes = self.produce_part(alloc, due)?;
-                Ok(bytes)
+                self.produce_part(alloc, out, due)?;
+                Ok(true)
             }
         }
     }
 
     // The same behind a connection error.
-    fn produce_last(&mut self, alloc: Global, room: u32) -> Result<Blob, Memory>
+    fn produce_last(&mut self, alloc: Global, out: &mut Vec<u8>, room: u32) -> Result<bool, Memory>
         requires { IsSome self.old.fault }
-        ensures { IfOk result (λ bytes. Produces self.old room bytes self.new) }
+        ensures ok { IfOk result (λ went. ProducesInto self.old room went out.old.items out.new.items self.new) }
+        ensures err { OnErr result (BeginsAs out.old.items out.new.items) }
     {
         if !fits(front_of(&self.control), room) {
-            return Ok(Blob::from_vec(Vec::new(alloc)));
+            return Ok(false);
         }
-        let bytes = self.produce_control(alloc)?;
-        Ok(bytes)
+        self.produce_control(alloc, out)?;
+        Ok(true)
     }
 
     // The first of the control frames that wait goes.
-    fn produce_control(&mut self, alloc: Global) -> Result<Blob, Memory>
+    fn produce_control(&mut self, alloc: Global, out: &mut Vec<u8>) -> Result<(), Memory>
         requires { IsSome (first_of self.old.control) }
-        ensures { IfOk result (λ bytes. ControlGoes self.old bytes self.new) }
+        ensures ok { OnOk result (Appended out.old.items out.new.items (λ bytes. ControlGoes self.old bytes self.new)) }
+        ensures err { OnErr result (out.new.items ≡ out.old.items) }
     {
         match self.control.pop_front() {
             Some(control) => {
-                let bytes = spell(alloc, control)?;
+                self.unwritten = counted(self.unwritten, len_of(control) as usize)?;
+                put_control(alloc, out, control)?;
                 credit(&mut self.streams, control);
-                self.unwritten = counted(self.unwritten, &bytes)?;
-                Ok(bytes)
+                Ok(())
             }
             None => unreachable!(),
         }

@@ -3,8 +3,8 @@
 ghost use Rattle.std.specs.Prelude.{◌≡◌, ◌==◌, ◌^◌, ◌<◌, ◌≤◌, ◌&&◌, is_some, None, false, pos, ◌-ℤ◌};
 ghost use Rattle.std.specs.List.{list_any, AllByRecursion};
 ghost use Rattle.h2_streams.specs.Shifts.{first_above, shifted};
-ghost use Rattle.h2_conn.specs.Windows.{initial_after};
-ghost use Rattle.h2_conn.specs.Rules.{pairs_code};
+ghost use Rattle.h2_record.specs.Windows.{initial_after};
+ghost use Rattle.h2_record.specs.Rules.{pairs_code};
 ghost use Rattle.h2_conn.specs.Shift.{is_too_large, ShiftsTo};
 ghost use Rattle.h2_conn.specs.Within.{IsNearInitial};
 

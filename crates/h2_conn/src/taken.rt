@@ -1,7 +1,7 @@
 //! What one frame did.
 
-use crate::event::Event;
 use h2_frames::H2Fault;
+use h2_record::Event;
 
 /// What a frame did to an open connection.
 #[derive(Drop)]

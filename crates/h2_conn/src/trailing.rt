@@ -4,10 +4,10 @@ ghost use Rattle.std.specs.Prelude.{◌≡◌, ◌%◌, ◌==◌, ◌<◌, ◌^�
 ghost use Rattle.std.specs.List.{AllByRecursion};
 ghost use Rattle.h2_streams.specs.Book.{find, is_idle};
 ghost use Rattle.h2_conn.specs.Trailing.{BeginsTo, EndsTo};
-ghost use Rattle.h2_conn.specs.Kept.{kept_on, KeptOnly};
+ghost use Rattle.h2_conn.specs.KeptCredit.{kept_on, KeptOnly};
 ghost use Rattle.h2_conn.specs.Within.{IsNearInitial};
 
-use crate::kept::Kept;
+use crate::kept_credit::KeptCredit;
 use h2_streams::{BeginRefusal, Streams};
 use outside::Memory;
 use std::alloc::Global;
@@ -45,7 +45,7 @@ pub(crate) fn begin(
 }
 
 // HEADERS on a live stream that the client hadn't ended.
-pub(crate) fn trail(streams: &mut Streams, kept: &mut Kept, id: u32, ended: bool)
+pub(crate) fn trail(streams: &mut Streams, kept: &mut KeptCredit, id: u32, ended: bool)
     requires { IsSome (find streams.old id) }
     ensures ends { IfSome (find streams.old id) (EndsTo streams.old id ended streams.new) }
     ensures near { (initial : ℕ) → AllByRecursion (IsNearInitial initial) streams.old.live → AllByRecursion (IsNearInitial initial) streams.new.live }

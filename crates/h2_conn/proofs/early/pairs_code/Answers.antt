@@ -1,8 +1,8 @@
 -- The first pair that has a code is the first of those that are left.
 use Rattle.std.proofs.Common.{drop, ◌+◌, sym, ap, ◌∙◌}
 use Rattle.std.specs.Option.{option_or}
-use Rattle.h2_conn.specs.Rules.{pairs_code}
-use Rattle.h2_conn.proofs.FaultLemmas.{pairs_code-drop}
+use Rattle.h2_record.specs.Rules.{pairs_code}
+use Rattle.h2_record.proofs.FaultLemmas.{pairs_code-drop}
 use Rattle.h2_conn.proofs.early.pairs_code.Goals as goal
 
 pub returns-in-Some : goal.returns-in-Some

@@ -1,5 +1,5 @@
 use Rattle.std.proofs.Common.{◌≡◌, drop}
-use Rattle.h2_conn.specs.Rules.{pairs_code}
+use Rattle.h2_record.specs.Rules.{pairs_code}
 use Rattle.h2_conn.proofs.early.pairs_code.Given as goal
 
 -- no pair before this one has a code

@@ -1,5 +1,5 @@
 use Rattle.std.proofs.Common.{◌≡◌, drop}
-use Rattle.h2_conn.specs.Windows.{initial_after}
+use Rattle.h2_record.specs.Windows.{initial_after}
 use Rattle.h2_conn.proofs.shift.initial_after.Given as goal
 
 -- what is left of the pairs leads to the same size

@@ -2,7 +2,7 @@
 use Rattle.std.proofs.Common.{ap, ◌∙◌}
 use Rattle.h2_conn.specs.Held.{Held}
 use Rattle.h2_conn.specs.Taking.{early_of}
-use Rattle.h2_conn.proofs.FaultLemmas.{early-left}
+use Rattle.h2_record.proofs.FaultLemmas.{early-left}
 use Rattle.h2_conn.proofs.conn.Conn.early_fault.Goals as goal
 
 pub returns : goal.returns

@@ -1,7 +1,7 @@
 -- GOAWAY waits behind the credit of the latest frame.
 use Rattle.std.proofs.Common.{[], ◌∷◌, ◌++◌, sym, ap, subst, ◌∙◌}
 use Rattle.std.specs.Prelude.{option_to_list}
-use Rattle.h2_conn.specs.declared.control.Control.TheVariants as control
+use Rattle.h2_record.specs.declared.control.Control.TheVariants as control
 use Rattle.h2_conn.specs.Latest.{latest_credit}
 use Rattle.h2_conn.specs.Held.{Held}
 use Rattle.h2_conn.specs.Stands.{Stands}

@@ -1,8 +1,8 @@
 -- Each part is that of the empty record.
 use Rattle.std.proofs.Common.{◌≡◌, [], ◌∷◌, ◌++◌, map, refl, ap, ◌∙◌}
-use Rattle.h2_conn.specs.declared.control.Control.TheVariants as control
-use Rattle.h2_conn.specs.Control.{frame_of}
-use Rattle.h2_conn.specs.Kept.{kept_on}
+use Rattle.h2_record.specs.declared.control.Control.TheVariants as control
+use Rattle.h2_record.specs.Control.{frame_of}
+use Rattle.h2_conn.specs.KeptCredit.{kept_on}
 use Rattle.h2_conn.proofs.NewLemmas.{streams-stand}
 use Rattle.h2_conn.proofs.conn.Conn.new.Goals as goal
 

@@ -4,8 +4,8 @@ use Rattle.h2_frames.specs.declared.frame.Frame.TheVariants as frames
 use Rattle.h2_streams.specs.Book.{state_in}
 use Rattle.h2_streams.specs.declared.stream.StreamState.TheVariants as is
 use Rattle.h2_conn.specs.Held.{Held}
-use Rattle.h2_conn.specs.Refusals.{body_refusal}
-use Rattle.h2_conn.specs.Windows.{receive_window_of}
+use Rattle.h2_record.specs.Refusals.{body_refusal}
+use Rattle.h2_record.specs.Windows.{receive_window_of}
 use Rattle.h2_conn.specs.Counting.{CountedBody}
 use Rattle.h2_conn.proofs.StateLemmas.{state-settled, state-ended}
 use Rattle.h2_conn.proofs.BodySteps.{takes-body-reset, takes-body-passed, takes-body-late}

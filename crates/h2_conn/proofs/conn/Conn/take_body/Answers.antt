@@ -2,9 +2,10 @@
 use Rattle.std.proofs.Common.{◌≡◌, None, refl, sym, ap, subst, ◌∙◌}
 use Rattle.h2_frames.specs.declared.frame.Frame.TheVariants as frames
 use Rattle.h2_conn.specs.Held.{Held}
-use Rattle.h2_conn.specs.Live.{is_idle_above}
-use Rattle.h2_conn.specs.Taking.{Settled, early_of, late_fault, Fails}
-use Rattle.h2_conn.proofs.FaultLemmas.{body-begun}
+use Rattle.h2_record.specs.Live.{is_idle_above}
+use Rattle.h2_conn.specs.Taking.{Settled, early_of, Fails}
+use Rattle.h2_record.specs.Early.{late_fault}
+use Rattle.h2_record.proofs.FaultLemmas.{body-begun}
 use Rattle.h2_conn.proofs.FloodLemmas.{fails-flood}
 use Rattle.h2_conn.proofs.BodySteps.{counts-body}
 use Rattle.h2_conn.proofs.conn.Conn.take_body.Goals as goal

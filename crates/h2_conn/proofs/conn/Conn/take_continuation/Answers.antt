@@ -2,14 +2,14 @@
 use Rattle.std.proofs.Common.{◌≡◌, ℕ, Bool, true, false, List, Option, None, Some, refl, sym, ap, subst, ◌∙◌}
 use Rattle.hpack_blocks.specs.Block.{block_of}
 use Rattle.h2_frames.specs.declared.frame.Frame.TheVariants as frames
-use Rattle.h2_conn.specs.declared.block.OpenBlock.{OpenBlock}
-use Rattle.h2_conn.specs.declared.hearing.Heard.{Heard}
-use Rattle.h2_conn.specs.Blocks.{continued, table_of, reading_of}
-use Rattle.h2_conn.specs.Rules.{is_large, block_code}
-use Rattle.h2_conn.specs.Hearing.{Hears}
+use Rattle.h2_record.specs.declared.block.OpenBlock.{OpenBlock}
+use Rattle.h2_conn.specs.declared.whole_block.BlockTold.{BlockTold}
+use Rattle.h2_record.specs.Blocks.{continued, table_of, reading_of}
+use Rattle.h2_record.specs.Rules.{is_large, block_code}
+use Rattle.h2_conn.specs.WholeBlock.{ReadsBlock}
 use Rattle.h2_conn.specs.Held.{Held}
 use Rattle.h2_conn.specs.Taking.{Settled, early_of, Took}
-use Rattle.h2_conn.proofs.FaultLemmas.{inside, is-inside, none-outside}
+use Rattle.h2_record.proofs.FaultLemmas.{inside, is-inside, none-outside}
 use Rattle.h2_conn.proofs.ContinuationSteps.{fails-large, fails-reading, counts-more, counts-last, takes-part, whole-of}
 use Rattle.h2_conn.proofs.BlockSteps.{tells-of}
 use Rattle.h2_conn.proofs.conn.Conn.take_continuation.Goals as goal
@@ -53,10 +53,10 @@ returns-in_default-2 c = λ r s.
     (subst (λ (w : Bool). early_of a.self.now (frames.Continuation a.stream w a.fragment) ≡ None) whole c.requires.early) in
     let here = sym c.in-Some.ensures.value in
     let longer : c.in_ok-block.block ≡ continued a.fragment c.in-Some.open = c.in_ok-block.ensures ∙ ap (λ (b : List ℕ). continued b c.in-Some.open) c.bytes.ensures in
-    let hears : Hears (continued a.fragment c.in-Some.open) (reading_of r (continued a.fragment c.in-Some.open)) None c.hear.new.decoder =
-    subst (λ (b : OpenBlock). Hears b (reading_of r b) None c.hear.new.decoder) longer
-    (subst (λ (h : Option Heard). Hears c.in_ok-block.block (block_of (table_of r) c.in_ok-block.block.bytes) h c.hear.new.decoder) c.in_default-2.is (c.in_ok-heard.ensures (table_of r) settled.table)) in
-    rw whole (rw c.take.ensures.after (fails-reading _ r a.stream a.fragment c.in-Some.open settled here c.hear.new.decoder early hears))
+    let hears : ReadsBlock (continued a.fragment c.in-Some.open) (reading_of r (continued a.fragment c.in-Some.open)) None c.read_block.new.decoder =
+    subst (λ (b : OpenBlock). ReadsBlock b (reading_of r b) None c.read_block.new.decoder) longer
+    (subst (λ (h : Option BlockTold). ReadsBlock c.in_ok-block.block (block_of (table_of r) c.in_ok-block.block.bytes) h c.read_block.new.decoder) c.in_default-2.is (c.in_ok-told.ensures (table_of r) settled.table)) in
+    rw whole (rw c.take.ensures.after (fails-reading _ r a.stream a.fragment c.in-Some.open settled here c.read_block.new.decoder early hears))
 
 pub returns-then-is_large-2 : goal.returns-then-is_large-2
 returns-then-is_large-2 c = λ r s.
@@ -67,11 +67,11 @@ returns-then-is_large-2 c = λ r s.
     (subst (λ (w : Bool). early_of a.self.now (frames.Continuation a.stream w a.fragment) ≡ None) whole c.requires.early) in
     let here = sym c.in-Some.ensures.value in
     let longer : c.in_ok-block.block ≡ continued a.fragment c.in-Some.open = c.in_ok-block.ensures ∙ ap (λ (b : List ℕ). continued b c.in-Some.open) c.bytes.ensures in
-    let hears : Hears (continued a.fragment c.in-Some.open) (reading_of r (continued a.fragment c.in-Some.open)) (Some c.in-Some-2.heard) c.hear.new.decoder =
-    subst (λ (b : OpenBlock). Hears b (reading_of r b) (Some c.in-Some-2.heard) c.hear.new.decoder) longer
-    (subst (λ (h : Option Heard). Hears c.in_ok-block.block (block_of (table_of r) c.in_ok-block.block.bytes) h c.hear.new.decoder) c.in-Some-2.is (c.in_ok-heard.ensures (table_of r) settled.table)) in
+    let hears : ReadsBlock (continued a.fragment c.in-Some.open) (reading_of r (continued a.fragment c.in-Some.open)) (Some c.in-Some-2.told) c.read_block.new.decoder =
+    subst (λ (b : OpenBlock). ReadsBlock b (reading_of r b) (Some c.in-Some-2.told) c.read_block.new.decoder) longer
+    (subst (λ (h : Option BlockTold). ReadsBlock c.in_ok-block.block (block_of (table_of r) c.in_ok-block.block.bytes) h c.read_block.new.decoder) c.in-Some-2.is (c.in_ok-told.ensures (table_of r) settled.table)) in
     let large : is_large (continued a.fragment c.in-Some.open) ≡ true = ap is_large (sym longer) ∙ sym c.is_large-2.ensures ∙ c.if-is_large-2.true in
-    let tells = tells-of r (frames.Continuation a.stream true a.fragment) (continued a.fragment c.in-Some.open) c.in-Some-2.heard c.hear.new.decoder (whole-of _ r a.stream a.fragment c.in-Some.open settled here) hears in
+    let tells = tells-of r (frames.Continuation a.stream true a.fragment) (continued a.fragment c.in-Some.open) c.in-Some-2.told c.read_block.new.decoder (whole-of _ r a.stream a.fragment c.in-Some.open settled here) hears in
     rw whole (rw c.take.ensures.after (fails-large _ r a.stream a.fragment c.in-Some.open settled here true _ early (ap (block_code r) (whole-of _ r a.stream a.fragment c.in-Some.open settled here) ∙ tells.2) large))
 
 pub returns : goal.returns
@@ -83,12 +83,12 @@ returns c = λ r s.
     (subst (λ (w : Bool). early_of a.self.now (frames.Continuation a.stream w a.fragment) ≡ None) whole c.requires.early) in
     let here = sym c.in-Some.ensures.value in
     let longer : c.in_ok-block.block ≡ continued a.fragment c.in-Some.open = c.in_ok-block.ensures ∙ ap (λ (b : List ℕ). continued b c.in-Some.open) c.bytes.ensures in
-    let hears : Hears (continued a.fragment c.in-Some.open) (reading_of r (continued a.fragment c.in-Some.open)) (Some c.in-Some-2.heard) c.hear.new.decoder =
-    subst (λ (b : OpenBlock). Hears b (reading_of r b) (Some c.in-Some-2.heard) c.hear.new.decoder) longer
-    (subst (λ (h : Option Heard). Hears c.in_ok-block.block (block_of (table_of r) c.in_ok-block.block.bytes) h c.hear.new.decoder) c.in-Some-2.is (c.in_ok-heard.ensures (table_of r) settled.table)) in
+    let hears : ReadsBlock (continued a.fragment c.in-Some.open) (reading_of r (continued a.fragment c.in-Some.open)) (Some c.in-Some-2.told) c.read_block.new.decoder =
+    subst (λ (b : OpenBlock). ReadsBlock b (reading_of r b) (Some c.in-Some-2.told) c.read_block.new.decoder) longer
+    (subst (λ (h : Option BlockTold). ReadsBlock c.in_ok-block.block (block_of (table_of r) c.in_ok-block.block.bytes) h c.read_block.new.decoder) c.in-Some-2.is (c.in_ok-told.ensures (table_of r) settled.table)) in
     let small : is_large (continued a.fragment c.in-Some.open) ≡ false = ap is_large (sym longer) ∙ sym c.is_large-2.ensures ∙ c.if-is_large-2.false in
-    let tells = tells-of r (frames.Continuation a.stream true a.fragment) (continued a.fragment c.in-Some.open) c.in-Some-2.heard c.hear.new.decoder (whole-of _ r a.stream a.fragment c.in-Some.open settled here) hears in
+    let tells = tells-of r (frames.Continuation a.stream true a.fragment) (continued a.fragment c.in-Some.open) c.in-Some-2.told c.read_block.new.decoder (whole-of _ r a.stream a.fragment c.in-Some.open settled here) hears in
     let same = is-inside a.self.now.block a.stream true a.fragment c.in-Some.open (inside a.self.now.has_begun a.self.now.block a.self.now.streams.last a.stream true a.fragment (subst (λ (w : Bool). early_of a.self.now (frames.Continuation a.stream w a.fragment) ≡ None) whole c.requires.early)) (ap (λ (h : Held). h.block) (sym c.self.view_is) ∙ here) in
-    let counts = counts-last _ r a.stream a.fragment c.in-Some.open settled here c.hear.new.decoder c.in-Some-2.heard early small hears in
+    let counts = counts-last _ r a.stream a.fragment c.in-Some.open settled here c.read_block.new.decoder c.in-Some-2.told early small hears in
     subst (λ (w : Bool). Took r (frames.Continuation a.stream w a.fragment) c.in_ok-taken.taken c.serve_block.new.self) (sym whole)
     (c.in_ok-taken.ensures r a.fragment (continued a.fragment c.in-Some.open) (rw c.take.ensures.after counts) tells.0 (whole-of _ r a.stream a.fragment c.in-Some.open settled here) same (ap (λ (b : OpenBlock). b.is_late) (sym longer)))

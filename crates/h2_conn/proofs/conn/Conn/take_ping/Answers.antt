@@ -1,9 +1,10 @@
 -- PING is one of the frames that ask for nothing, and is answered.
 use Rattle.std.proofs.Common.{◌≡◌, false, [], ◌∷◌, None, refl, sym, subst}
 use Rattle.h2_frames.specs.declared.frame.Frame.TheVariants as frames
-use Rattle.h2_conn.specs.declared.control.Control.TheVariants as control
+use Rattle.h2_record.specs.declared.control.Control.TheVariants as control
 use Rattle.h2_conn.specs.Held.{Held}
-use Rattle.h2_conn.specs.Taking.{Settled, early_of, late_fault, Fails}
+use Rattle.h2_conn.specs.Taking.{Settled, early_of, Fails}
+use Rattle.h2_record.specs.Early.{late_fault}
 use Rattle.h2_conn.proofs.FloodLemmas.{fails-flood, sound-flood, count-flood}
 use Rattle.h2_conn.proofs.QuietLemmas.{Ping, takes-quiet}
 use Rattle.h2_conn.proofs.conn.Conn.take_ping.Goals as goal

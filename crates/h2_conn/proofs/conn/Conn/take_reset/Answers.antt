@@ -3,7 +3,8 @@ use Rattle.std.proofs.Common.{◌≡◌, None, refl, sym, ap, subst}
 use Rattle.h2_frames.specs.declared.frame.Frame.TheVariants as frames
 use Rattle.h2_streams.specs.Book.{Book}
 use Rattle.h2_conn.specs.Held.{Held}
-use Rattle.h2_conn.specs.Taking.{Settled, early_of, late_fault, Fails}
+use Rattle.h2_conn.specs.Taking.{Settled, early_of, Fails}
+use Rattle.h2_record.specs.Early.{late_fault}
 use Rattle.h2_conn.proofs.FloodLemmas.{fails-flood}
 use Rattle.h2_conn.proofs.WithinLemmas.{within-removed, within-flood}
 use Rattle.h2_conn.proofs.StreamSteps.{takes-reset-shut, takes-cancel}

@@ -4,11 +4,11 @@ use Rattle.h2_frames.specs.declared.frame.Frame.TheVariants as frames
 use Rattle.h2_streams.specs.Book.{Book}
 use Rattle.h2_conn.specs.Held.{Held}
 use Rattle.std.specs.List.{AllByRecursion}
-use Rattle.h2_conn.specs.declared.control.Control.{Control}
-use Rattle.h2_conn.specs.declared.control.Control.TheVariants as control
+use Rattle.h2_record.specs.declared.control.Control.{Control}
+use Rattle.h2_record.specs.declared.control.Control.TheVariants as control
 use Rattle.h2_conn.specs.Within.{IsWithin, FitsFrame}
 use Rattle.h2_conn.specs.Taking.{Settled, early_of}
-use Rattle.h2_conn.proofs.FaultLemmas.{good-pairs}
+use Rattle.h2_record.proofs.FaultLemmas.{good-pairs}
 use Rattle.h2_conn.proofs.WithinLemmas.{within-shift, fit-push}
 use Rattle.h2_conn.proofs.SettingsSteps.{fails-shift, fails-settings, takes-settings}
 use Rattle.h2_conn.proofs.conn.Conn.take_settings.Goals as goal
