@@ -1,0 +1,4 @@
+pub mod ToldLemmas
+pub mod PieceLemmas
+pub mod ClockLemmas
+pub mod TrafficLemmas
