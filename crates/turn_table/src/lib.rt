@@ -1,12 +1,19 @@
-//! The turn table: what it asks of the machine that takes turns.
+//! The turn table: one machine, at which all who have a pass to it take turns.
 //!
 //! A [`Machine`] answers commands one after another. Its meaning is its history, the list of the accepted commands'
 //! entries, and a fixed part that no call changes. `specs/Turn` says what one step does, and which histories are
 //! legal for a machine.
+//!
+//! A [`Turn`] is the table, and a [`Pass`] the right to act on it. A pass has seen a history, which is legal, and
+//! [`Turn::act`] answers at a history that begins with that: what stands behind it are other passes' entries. A pass
+//! that is alone meets none, so that its histories are computed. `specs/View` says what a pass shows and what an act
+//! does to it. As yet each turn has one pass, which is alone and carries the machine.
 #![tactic(auto)]
 
 mod laws;
 mod machine;
+mod turn;
 
 pub use laws::{fronts_are_legal, steps_stay_legal};
 pub use machine::{LATEST_READING, Machine};
+pub use turn::{Pass, Turn};
