@@ -6,7 +6,7 @@ use Rattle.column_types.specs.Schema.{IsSchema}
 use Rattle.table_spec.specs.declared.spec.TableSpec.{TableSpec}
 use Rattle.table_spec.specs.declared.spec.SpecFault.{SpecFault}
 use Rattle.table_spec.specs.declared.spec.SpecFault.TheVariants as fault
-use Rattle.table_spec.specs.Name.{is_table_name}
+use Rattle.resource_names.specs.Table.{is_table_name}
 use Rattle.table_spec.specs.Columns.{columns_of}
 
 abbrev pub is_equals : ℕ → Bool

@@ -7,12 +7,8 @@
 #![tactic(auto)]
 
 mod columns;
-mod names;
 mod parts;
 mod spec;
 
-pub use names::MAX_PART_BYTES;
+pub use resource_names::MAX_PART_BYTES;
 pub use spec::{SpecFault, TableSpec};
-
-#[cfg(test)]
-mod tests;

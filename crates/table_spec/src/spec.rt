@@ -1,12 +1,13 @@
 //! A table's SPEC.
 
 ghost use Rattle.std.specs.Prelude.{◌≡◌, IfOk};
+ghost use Rattle.resource_names.specs.Table.{is_table_name};
 ghost use Rattle.table_spec.specs.Spec.{ReadsSchema, ReadsSpec};
 
 use crate::columns::columns_of;
-use crate::names::is_table_name;
 use column_types::{Column, Schema, SchemaFault};
 use outside::{Memory, Text};
+use resource_names::{NameFault, TableName};
 use std::alloc::{AllocError, AllocFailed, Global};
 use thiserror::Error;
 
@@ -69,6 +70,17 @@ fn schema_of(alloc: Global, columns: Vec<Column>) -> Result<Schema, SpecFault>
         Ok(schema) => Ok(schema),
         Err(SchemaFault::Memory) => Err(SpecFault::Memory),
         Err(_) => Err(SpecFault::NoSpec),
+    }
+}
+
+/// Whether a text is the name of a table.
+fn is_table_name(alloc: Global, text: &str) -> Result<bool, Memory>
+    ensures { IfOk result (λ yes. yes ≡ is_table_name text.now) }
+{
+    match TableName::parse(alloc, text) {
+        Ok(_) => Ok(true),
+        Err(NameFault::BadName) => Ok(false),
+        Err(NameFault::Memory) => Err(Memory),
     }
 }
 

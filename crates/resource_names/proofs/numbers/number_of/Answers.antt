@@ -1,0 +1,9 @@
+use Rattle.std.proofs.Common.{◌∙◌}
+use Rattle.resource_names.proofs.NumberLemmas.{parsed, unparsed}
+use Rattle.resource_names.proofs.numbers.number_of.Goals as goal
+
+pub returns-in-Ok : goal.returns-in-Ok
+returns-in-Ok c = c.spelled.ensures ∙ parsed c.args.text.now c.parse.result c.in-Ok.number c.parse.ensures.value.0 c.in-Ok.is
+
+pub returns-in-Err : goal.returns-in-Err
+returns-in-Err c = unparsed c.args.text.now c.parse.result c.in-Err.field-0 c.parse.ensures.value.0 c.in-Err.is
