@@ -11,7 +11,8 @@ use Rattle.grpc_frame.specs.Part.{part_of}
 use Rattle.grpc_frame.specs.declared.part.Part.{Part}
 use Rattle.grpc_frame.specs.declared.part.Part.TheVariants as part
 use Rattle.grpc_frame.proofs.MessagesLemmas.{part_of-frame, Messages-unique}
-use Rattle.call_body.specs.declared.limits.TheConstants.{MESSAGE_LIMIT, BODY_LIMIT}
+use Rattle.grpc_frame.specs.declared.limits.TheConstants.{MESSAGE_LIMIT}
+use Rattle.call_body.specs.declared.limits.TheConstants.{BODY_LIMIT}
 use Rattle.call_body.specs.declared.ends.BodyEnd.{BodyEnd}
 use Rattle.call_body.specs.declared.ends.BodyEnd.TheVariants as ends
 use Rattle.call_body.specs.Reading.{Reads, IsStop, IsStopAt}

@@ -10,7 +10,7 @@ use Rattle.grpc_frame.specs.Part.{part_of}
 use Rattle.grpc_frame.specs.declared.part.Part.{Part}
 use Rattle.grpc_frame.specs.declared.part.Part.TheVariants as part
 use Rattle.grpc_frame.proofs.PartLemmas.{part_of-stays}
-use Rattle.call_body.specs.declared.limits.TheConstants.{MESSAGE_LIMIT}
+use Rattle.grpc_frame.specs.declared.limits.TheConstants.{MESSAGE_LIMIT}
 use Rattle.call_body.specs.Answers.{Answered}
 use Rattle.call_body.specs.Reading.{Reads, IsStop, IsStopAt}
 use Rattle.call_body.specs.Ends.{ReadsPartly}

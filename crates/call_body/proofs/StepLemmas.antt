@@ -10,7 +10,7 @@ use Rattle.grpc_frame.specs.Frame.{frame, prefix_of}
 use Rattle.grpc_frame.specs.Part.{part_of}
 use Rattle.grpc_frame.specs.declared.part.Part.{Part}
 use Rattle.grpc_frame.specs.declared.part.Part.TheVariants as part
-use Rattle.call_body.specs.declared.limits.TheConstants.{MESSAGE_LIMIT}
+use Rattle.grpc_frame.specs.declared.limits.TheConstants.{MESSAGE_LIMIT}
 use Rattle.call_body.specs.declared.replies.Step.TheVariants as step
 use Rattle.call_body.specs.Reading.{Reads, IsStopAt, AppendsWhereTold}
 use Rattle.call_body.specs.Ends.{ReadsPartly}

@@ -5,7 +5,8 @@ use Rattle.std.specs.List.{AllByRecursion}
 use Rattle.std.proofs.Common.{◌⊎◌}
 use Rattle.outside.specs.Faults.{Rose}
 use Rattle.grpc_frame.specs.Messages.{Messages}
-use Rattle.call_body.specs.declared.limits.TheConstants.{MESSAGE_LIMIT, BODY_LIMIT}
+use Rattle.grpc_frame.specs.declared.limits.TheConstants.{MESSAGE_LIMIT}
+use Rattle.call_body.specs.declared.limits.TheConstants.{BODY_LIMIT}
 use Rattle.call_body.specs.declared.ends.BodyEnd.{BodyEnd}
 use Rattle.call_body.specs.declared.ends.BodyEnd.TheVariants as ends
 use Rattle.call_body.specs.Reading.{Reads, IsStop, IsUnfinished, AppendsWhereTold}

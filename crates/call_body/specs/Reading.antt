@@ -6,7 +6,7 @@ use Rattle.grpc_frame.specs.Messages.{IsWithin}
 use Rattle.grpc_frame.specs.Part.{part_of}
 use Rattle.grpc_frame.specs.declared.part.Part.{Part}
 use Rattle.grpc_frame.specs.declared.part.Part.TheVariants as part
-use Rattle.call_body.specs.declared.limits.TheConstants.{MESSAGE_LIMIT}
+use Rattle.grpc_frame.specs.declared.limits.TheConstants.{MESSAGE_LIMIT}
 use Rattle.call_body.specs.Answers.{Answered}
 
 -- the bytes are whole messages, each within the limit, and a rest; the framed replies to these messages are `replied`

@@ -5,10 +5,10 @@ ghost use Rattle.call_body.specs.Ends.{EndsAs, Writes, ReadsAll, TakesAtMost, Ha
 
 use crate::answering::Answers;
 use crate::ends::BodyEnd;
-use crate::limits::{BODY_LIMIT, MESSAGE_LIMIT, PIECE_LEN};
+use crate::limits::{BODY_LIMIT, PIECE_LEN};
 use crate::pieces::{Fed, buffer, feed_piece};
 use crate::replies::{Step, answer_held};
-use grpc_frame::Deframer;
+use grpc_frame::{Deframer, MESSAGE_LIMIT};
 use outside::{Sink, Source};
 use std::alloc::Global;
 

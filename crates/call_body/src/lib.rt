@@ -17,4 +17,4 @@ mod replies;
 pub use answering::{Answer, Answers};
 pub use bodies::answer_body;
 pub use ends::BodyEnd;
-pub use limits::{BODY_LIMIT, MESSAGE_LIMIT, PIECE_LEN, limits_in_figures};
+pub use limits::{BODY_LIMIT, PIECE_LEN, limits_in_figures};

@@ -1,8 +1,6 @@
 ghost use Rattle.std.specs.Prelude.{◌≡◌};
-ghost use Rattle.call_body.specs.declared.limits.TheConstants.{MESSAGE_LIMIT, BODY_LIMIT};
-
-/// The longest message of a call, in bytes.
-pub const MESSAGE_LIMIT: u32 = 10_485_760;
+ghost use Rattle.grpc_frame.specs.declared.limits.TheConstants.{MESSAGE_LIMIT};
+ghost use Rattle.call_body.specs.declared.limits.TheConstants.{BODY_LIMIT};
 
 /// The longest body of a call that the program reads, in bytes.
 pub const BODY_LIMIT: usize = 1_073_741_824;

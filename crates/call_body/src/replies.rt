@@ -2,7 +2,7 @@ ghost use Rattle.std.specs.Prelude.{◌≡◌, ◌<◌, ◌≤◌, ◌^◌, leng
 ghost use Rattle.grpc_frame.specs.Messages.{IsWithin};
 ghost use Rattle.grpc_frame.specs.Frame.{frame};
 ghost use Rattle.outside.specs.Faults.{Rose};
-ghost use Rattle.call_body.specs.declared.limits.TheConstants.{MESSAGE_LIMIT};
+ghost use Rattle.grpc_frame.specs.declared.limits.TheConstants.{MESSAGE_LIMIT};
 ghost use Rattle.call_body.specs.Steps.{StepsTo, StepCause, WritesAll, RepliesOne};
 
 use crate::answering::{Answer, Answers};

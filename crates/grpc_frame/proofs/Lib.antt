@@ -1,3 +1,4 @@
 pub mod PartLemmas
 pub mod MessagesLemmas
 pub mod StartedLemmas
+pub mod SplitLemmas

@@ -87,7 +87,7 @@ IsInside-is limit bytes rest small read inside =
     let same : inside.1 ≡ rest = (Messages-unique limit bytes inside.0 read.0 inside.1 rest small inside.2 read.1).1 in
     (λ none. inside.3 (same ∙ none), ap (part_of limit) (sym same) ∙ inside.4)
 
-length-frame : (message rest : List ℕ) → length (frame message ++ rest) ≡ 5 + length message + length rest
+pub length-frame : (message rest : List ℕ) → length (frame message ++ rest) ≡ 5 + length message + length rest
 unfolding frame prefix_of
 length-frame message rest = grind (arith, common_steps)
 

@@ -4,3 +4,4 @@ pub mod Messages
 pub mod Held
 pub mod Front
 pub mod Started
+pub mod Split

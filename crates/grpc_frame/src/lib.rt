@@ -12,13 +12,13 @@
 mod deframer;
 mod frame;
 mod front;
+mod limits;
 mod part;
 mod reading;
 mod started;
-#[cfg(test)]
-mod tests;
 
 pub use deframer::Deframer;
 pub use frame::frame_message;
+pub use limits::{MESSAGE_LIMIT, limit_in_figures};
 pub use part::Part;
 pub use reading::one_reading;

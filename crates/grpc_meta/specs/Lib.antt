@@ -2,3 +2,4 @@ pub mod Answer
 pub mod Fields
 pub mod Methods
 pub mod Request
+pub mod Laws

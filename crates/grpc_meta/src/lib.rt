@@ -9,10 +9,9 @@
 
 mod answers;
 mod fields;
+pub mod laws;
 mod methods;
 mod requests;
-#[cfg(test)]
-mod tests;
 
 pub use answers::{Status, http_only, response_head, trailers};
 pub use fields::trailer_is_good;

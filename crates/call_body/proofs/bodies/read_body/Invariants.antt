@@ -1,6 +1,7 @@
 -- The bytes so far are read, and an unfinished message is held.
 use Rattle.std.proofs.Common.{◌≡◌, ◌+◌, ◌-◌}
-use Rattle.call_body.specs.declared.limits.TheConstants.{MESSAGE_LIMIT, BODY_LIMIT}
+use Rattle.grpc_frame.specs.declared.limits.TheConstants.{MESSAGE_LIMIT}
+use Rattle.call_body.specs.declared.limits.TheConstants.{BODY_LIMIT}
 use Rattle.call_body.specs.Reading.{IsUnfinished}
 use Rattle.call_body.proofs.At.{At}
 use Rattle.call_body.proofs.bodies.read_body.Given as goal

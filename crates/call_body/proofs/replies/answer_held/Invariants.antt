@@ -1,7 +1,7 @@
 -- The messages so far are answered, and the bytes behind them are held.
 use Rattle.std.proofs.Common.{◌≡◌, ℕ, List, length}
 use Rattle.std.specs.Io.KnownBytes.{Appends}
-use Rattle.call_body.specs.declared.limits.TheConstants.{MESSAGE_LIMIT}
+use Rattle.grpc_frame.specs.declared.limits.TheConstants.{MESSAGE_LIMIT}
 use Rattle.call_body.specs.Reading.{Reads}
 use Rattle.call_body.proofs.replies.answer_held.Given as goal
 
