@@ -1,0 +1,11 @@
+pub mod Timeline
+pub mod Cutting
+pub mod Pieces
+pub mod Read
+pub mod Places
+pub mod Written
+pub mod Sending
+pub mod Marks
+pub mod Fronts
+pub mod Giving
+pub mod Quiet
