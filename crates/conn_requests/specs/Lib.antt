@@ -1,0 +1,10 @@
+pub mod Methods
+pub mod Names
+pub mod Body
+pub mod Held
+pub mod Taken
+pub mod Ends
+pub mod Given
+pub mod Decided
+pub mod Spelled
+pub mod Laws
