@@ -2,3 +2,4 @@ pub mod RowsLemmas
 pub mod MessageSizes
 pub mod RequestSizes
 pub mod ResponseSizes
+pub mod AskingLemmas

@@ -1,6 +1,7 @@
 -- A response is far shorter than a frame may be.
-use Rattle.std.proofs.Common.{◌≡◌, ℕ, ℤ, pos, ◌+◌, ◌*◌, ◌≤◌, ◌<◌, ◌^◌, Bool, true, false, cond, eqb, List, [], ◌∷◌, ◌++◌, length, map, take, sum_by, Option, Some, None, Result, Ok, Err, IfOk, refl, sym, ap, subst, ◌∙◌, length-append, arith}
-use Rattle.std.specs.Prelude.{slice_get, option_and_then, unwrap_or, codes}
+use Rattle.std.proofs.Common.{◌≡◌, ℕ, ℤ, pos, zero, suc, ◌+◌, ◌*◌, ◌/◌, ◌%◌, ◌≤◌, ◌<◌, ◌^◌, Bool, true, false, cond, eqb, List, [], ◌∷◌, ◌++◌, length, map, take, sum_by, Option, Some, None, Result, Ok, Err, IfOk, refl, sym, ap, subst, ◌∙◌, length-append, arith}
+use Rattle.std.specs.Prelude.{◌==◌, if◌then◌else◌, slice_get, option_and_then, unwrap_or, codes}
+use Rattle.std.specs.Fmt.{decimal, digits, digits_onto, digit_glyph}
 use Rattle.std.specs.Option.{option_map}
 use Rattle.std.specs.Int.{w64, cast_unsigned, cast_signed}
 use Rattle.std.specs.Str.{chars}
@@ -9,6 +10,7 @@ use Rattle.std.proofs.lemmas.Str.{length-encode, len_utf8_bounds}
 use Rattle.std.proofs.lemmas.List.{length-take}
 use Rattle.std.proofs.lemmas.List.Concat.{length-flat_map}
 use Rattle.std.proofs.lemmas.List.Sums.{sum_by-cons, sum_by-append}
+use Rattle.outside.specs.declared.wants.Memory.{Memory}
 use Rattle.column_types.specs.declared.cell.Cell.{Cell}
 use Rattle.column_types.specs.declared.column.Column.{Column}
 use Rattle.proto_fields.specs.Record.{Record, Varint, Len, record_bytes}
@@ -34,10 +36,10 @@ use Rattle.write_msgs.specs.declared.response_parts.RowError.{RowError}
 use Rattle.write_msgs.specs.Writing.{field_of, bytes_field, text_field, varint_field, int_field, message_field, repeated_field}
 use Rattle.write_msgs.specs.RequestBytes.{int64_value_bytes}
 use Rattle.write_msgs.specs.ResponseBytes.{append_result_bytes, status_bytes, row_error_bytes, append_rows_response_bytes}
-use Rattle.call_append.specs.Texts.{shown, name_in, cause_text, column_name, row_text}
+use Rattle.call_append.specs.Texts.{shown, carried_in, cause_text, column_name, row_text}
 use Rattle.call_append.specs.declared.appends.NoResponse.{NoResponse}
 use Rattle.call_append.specs.declared.appends.NoResponse.TheVariants as none
-use Rattle.call_append.specs.Response.{accepted, refused, row_error, told}
+use Rattle.call_append.specs.Response.{accepted, refused, row_error, told, told_without_rows}
 use Rattle.call_append.specs.Message.{Outcome, Responds}
 
 abbrev size : Record → ℕ
@@ -122,14 +124,31 @@ phrase_size (why.Syntax x) = omega arith
 phrase_size (why.UnknownColumn x) = omega arith
 phrase_size (why.IllTyped x) = omega arith
 
-name_size : (cause : Why) → length (name_in cause) ≤ 512
-name_size (why.ExtraField x) = shown_size x
-name_size (why.TypeMismatch x) = shown_size x
-name_size (why.MissingRequired x) = shown_size x
-name_size _ = omega arith
+one_digit : (last : Bool) (k digit : ℕ) (acc more : List ℕ) → length more ≤ k + length (digit ∷ acc) → length (if last then digit ∷ acc else more) ≤ suc k + length acc
+one_digit true k digit acc more few = omega arith
+one_digit false k digit acc more few = omega (arith, few)
 
-cause_size : (cause : Why) → length (cause_text cause) ≤ 552
-cause_size cause = omega (arith, length-append (phrase_of cause) (name_in cause), phrase_size cause, name_size cause)
+digits_size : (k n : ℕ) (acc : List ℕ) → length (digits_onto k 10 false n acc) ≤ k + length acc
+digits_size zero n acc = omega arith
+digits_size (suc k) n acc =
+    let digit = digit_glyph false (n % 10) in
+    one_digit (n / 10 == 0) k digit acc (digits_onto k 10 false (n / 10) (digit ∷ acc)) (digits_size k (n / 10) (digit ∷ acc))
+
+decimal_size : (n : ℕ) → length (decimal n) ≤ 64
+unfolding digits
+decimal_size n = omega (arith, digits_size 64 n [])
+
+carried_size : (cause : Why) → length (carried_in cause) ≤ 512
+carried_size (why.ExtraField x) = shown_size x
+carried_size (why.TypeMismatch x) = shown_size x
+carried_size (why.MissingRequired x) = shown_size x
+carried_size (why.UnknownColumn x) = shown_size x
+carried_size (why.IllTyped x) = shown_size x
+carried_size (why.Syntax at) = omega (arith, decimal_size at)
+carried_size _ = omega arith
+
+pub cause_size : (cause : Why) → length (cause_text cause) ≤ 552
+cause_size cause = omega (arith, length-append (phrase_of cause) (carried_in cause), phrase_size cause, carried_size cause)
 
 column_size : (columns : List Column) (at : ℕ) → length (column_name columns at) ≤ 512
 column_size columns at = of (slice_get columns at)
@@ -223,8 +242,16 @@ responds_short old new due (Ok response) short h = subst IsShort (sym h.0) short
 responds_short old new due (Err none.Undone) short h = tt
 responds_short old new due (Err none.Lost) short h = tt
 
-pub faults_short : (binding : List BoundColumn) (rows : List (List ℕ)) (f : RowsFault) (columns : List Column) (cause : Why) (faults first : List RowFault)
-    → RefusesRows binding rows f → f ≡ fault.Refused faults → first ≡ faults → IsShort (refused columns cause first)
-faults_short binding rows f columns cause faults first h is e =
-    let due = subst (RefusesRows binding rows) is h in
-    refused_short columns cause first (omega (arith, ap length e, ap length due.first, length-take 100 (faults_of binding rows)))
+pub told_without_short : (columns : List Column) (cause : Why) (faults : List RowFault) (r : Reply) → length faults ≤ 100 → IsShort (told_without_rows columns cause faults r)
+told_without_short columns cause faults (reply.Refused refusal) few = refused_short columns refusal.why [] (omega arith)
+told_without_short columns cause faults (reply.Created stream moment) few = refused_short columns cause faults few
+told_without_short columns cause faults (reply.Appended offset) few = refused_short columns cause faults few
+told_without_short columns cause faults (reply.Flushed offset) few = refused_short columns cause faults few
+told_without_short columns cause faults (reply.Finalised rows) few = refused_short columns cause faults few
+told_without_short columns cause faults (reply.Committed moment) few = refused_short columns cause faults few
+told_without_short columns cause faults (reply.NotCommitted errors) few = refused_short columns cause faults few
+told_without_short columns cause faults (reply.Stream kind created committed) few = refused_short columns cause faults few
+
+pub text_short : (cause : Why) (text : Result (List ℕ) Memory) → IfOk text (λ t. t ≡ cause_text cause) → IfOk text (λ t. length t ≤ 1024)
+text_short cause (Ok text) is = omega (arith, ap length is, cause_size cause)
+text_short cause (Err memory) is = tt

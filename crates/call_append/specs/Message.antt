@@ -1,10 +1,6 @@
 -- What a message of an AppendRows call does to a table, and what it is answered.
-use Rattle.std.specs.Prelude.{◌≡◌, ℕ, ℤ, List, [], length, sum_by, Option, Result, Ok, Err}
-use Rattle.column_types.specs.declared.cell.Cell.{Cell}
-use Rattle.row_decode.specs.declared.faults.RowFault.{RowFault}
-use Rattle.table_model.specs.declared.commands.Command.TheVariants as command
+use Rattle.std.specs.Prelude.{◌≡◌, ℕ, ℤ, List, Option, Result, Ok, Err}
 use Rattle.table_model.specs.declared.replies.Answer.{Answer}
-use Rattle.table_model.specs.declared.reasons.Why.TheVariants as why
 use Rattle.table_model.specs.Table.{Table, answer_at, reply_of, history_after}
 use Rattle.write_msgs.specs.declared.request.AppendRowsRequest.{AppendRowsRequest}
 use Rattle.write_msgs.specs.declared.response.AppendRowsResponse.{AppendRowsResponse}
@@ -12,31 +8,26 @@ use Rattle.call_append.specs.declared.appends.Asker.{Asker}
 use Rattle.call_append.specs.declared.appends.NoResponse.{NoResponse}
 use Rattle.call_append.specs.declared.appends.NoResponse.TheVariants as none
 use Rattle.call_append.specs.Writer.{Writer, schema_named, rows_named, last_writer}
-use Rattle.call_append.specs.Rows.{rows_or_faults}
-use Rattle.call_append.specs.Response.{refused, told}
+use Rattle.call_append.specs.Asking.{Asked, asked_by}
+use Rattle.call_append.specs.Response.{told_by}
 
 -- the response, and the table behind it
 pub record Outcome : Type 0 where
   pub response : AppendRowsResponse
   pub table : Table
 
-abbrev pub stepped : Table → Answer → Outcome
-stepped table answer = record { response = told table.columns (reply_of answer); table = record table { entries = history_after table.entries answer } }
+-- a table answers what was asked of it
+abbrev pub answered : Table → Asked → Answer → Outcome
+answered table asked answer = record {
+  response = told_by table.columns asked.faulty (reply_of answer);
+  table = record table { entries = history_after table.entries answer };
+}
 
--- rows are appended
-abbrev pub on_decoded : Asker → Table → Option ℤ → ℕ → List (List Cell) → Outcome
-on_decoded asker table offset bytes rows =
-    stepped table (answer_at table asker.caller (command.Append asker.stream offset rows bytes) asker.now)
+abbrev pub on_asked : Asker → Table → Asked → Outcome
+on_asked asker table asked = answered table asked (answer_at table asker.caller asked.command asker.now)
 
--- unless one of them is refused
-abbrev pub on_rows : Asker → Table → Option ℤ → ℕ → Result (List (List Cell)) (List RowFault) → Outcome
-on_rows asker table offset bytes (Ok rows) = on_decoded asker table offset bytes rows
-on_rows asker table offset bytes (Err faults) = record { response = refused table.columns why.BadRows faults; table = table }
-
--- the writer schema comes first
 abbrev pub on_writer : Asker → Table → Writer → Option ℤ → List (List ℕ) → Outcome
-on_writer asker table (Err cause) offset rows = record { response = refused table.columns cause []; table = table }
-on_writer asker table (Ok binding) offset rows = on_rows asker table offset (sum_by length rows) (rows_or_faults binding rows)
+on_writer asker table writer offset rows = on_asked asker table (asked_by asker.stream writer offset rows)
 
 -- the writer schema that counts with a message
 abbrev pub writer_with : Table → Writer → AppendRowsRequest → Writer

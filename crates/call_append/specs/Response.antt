@@ -15,6 +15,7 @@ use Rattle.write_msgs.specs.declared.response_parts.RowError.{RowError}
 use Rattle.write_msgs.specs.declared.response_parts.Status.{Status}
 use Rattle.call_append.specs.declared.responses.TheConstants.{FIELDS_ERROR}
 use Rattle.call_append.specs.Texts.{cause_text, row_text}
+use Rattle.call_append.specs.Asking.{Faulty}
 
 -- the offset of the first row, where the stream has offsets
 abbrev pub accepted : Option ℕ → AppendRowsResponse
@@ -42,3 +43,12 @@ abbrev pub told : List Column → Reply → AppendRowsResponse
 told columns (reply.Appended offset) = accepted offset
 told columns (reply.Refused refusal) = refused columns refusal.why []
 told columns _ = accepted None
+
+-- What it tells where the rows can't be appended, and it was asked whether the stream is there.
+abbrev pub told_without_rows : List Column → Why → List RowFault → Reply → AppendRowsResponse
+told_without_rows columns cause faults (reply.Refused refusal) = refused columns refusal.why []
+told_without_rows columns cause faults _ = refused columns cause faults
+
+abbrev pub told_by : List Column → Option Faulty → Reply → AppendRowsResponse
+told_by columns None told_reply = told columns told_reply
+told_by columns (Some faulty) told_reply = told_without_rows columns faulty.cause faulty.rows told_reply

@@ -1,5 +1,5 @@
 -- The texts of refusals.
-use Rattle.std.specs.Prelude.{ℕ, List, [], ◌++◌, take, Option, Some, None, slice_get, unwrap_or, option_and_then, codes}
+use Rattle.std.specs.Prelude.{ℕ, List, [], ◌++◌, take, Option, Some, None, slice_get, unwrap_or, option_and_then, codes, decimal}
 use Rattle.std.specs.Str.{chars, encode_utf8_all}
 use Rattle.column_types.specs.declared.column.Column.{Column}
 use Rattle.table_model.specs.declared.reasons.Why.{Why}
@@ -13,15 +13,18 @@ use Rattle.call_append.specs.declared.texts.TheConstants.{SHOWN_CHARACTERS}
 abbrev pub shown : List ℕ → List ℕ
 shown name = encode_utf8_all (take SHOWN_CHARACTERS (chars name))
 
--- the name that the cause of a refused append carries, if it carries one
-abbrev pub name_in : Why → List ℕ
-name_in (why.ExtraField name) = shown name
-name_in (why.TypeMismatch name) = shown name
-name_in (why.MissingRequired name) = shown name
-name_in _ = []
+-- what a cause carries: the name of a field or a column, or a place in a restriction
+abbrev pub carried_in : Why → List ℕ
+carried_in (why.ExtraField name) = shown name
+carried_in (why.TypeMismatch name) = shown name
+carried_in (why.MissingRequired name) = shown name
+carried_in (why.UnknownColumn name) = shown name
+carried_in (why.IllTyped name) = shown name
+carried_in (why.Syntax at) = decimal at
+carried_in _ = []
 
 abbrev pub cause_text : Why → List ℕ
-cause_text cause = phrase_of cause ++ name_in cause
+cause_text cause = phrase_of cause ++ carried_in cause
 
 -- the name of the column of this number
 abbrev pub column_name : List Column → ℕ → List ℕ

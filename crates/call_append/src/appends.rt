@@ -1,18 +1,19 @@
 //! The rows of a message, appended to a table.
 
-ghost use Rattle.std.specs.Prelude.{◌≡◌, ◌<◌, ◌≤◌, ◌^◌, ◌≤ℤ◌, length, sum_by, All, IfOk};
-ghost use Rattle.column_types.specs.Row.{Fits};
-ghost use Rattle.column_types.specs.Sizes.{bytes_of_row};
+ghost use Rattle.std.specs.Prelude.{◌≡◌, ◌<◌, ◌^◌, ◌≤ℤ◌, List, length, sum_by, IfOk};
+ghost use Rattle.column_types.specs.declared.column.Column.{Column};
 ghost use Rattle.row_descriptor.specs.Binding.{IsBoundTo};
 ghost use Rattle.table_model.specs.declared.limits.TheConstants.{LATEST_READING};
+ghost use Rattle.table_model.specs.Legal.{Takes};
 ghost use Rattle.write_msgs.specs.ResponseBytes.{append_rows_response_bytes};
-ghost use Rattle.call_append.specs.Message.{Responds, on_decoded, on_writer};
+ghost use Rattle.call_append.specs.Asking.{Prepares, to_append, without_rows};
+ghost use Rattle.call_append.specs.Message.{Responds, on_asked, on_writer};
 
-use crate::responses::{refused, told};
+use crate::responses::{told, told_without_rows};
 use crate::writers::Writer;
-use column_types::Row;
 use outside::{Blob, Memory};
-use row_decode::{RowsFault, decode_rows};
+use row_decode::{RowFault, RowsFault, decode_rows};
+use row_descriptor::Binding;
 use sqlite_items::Items;
 use std::alloc::Global;
 use table_engine::Engine;
@@ -57,29 +58,69 @@ fn size_of(rows: &[Blob]) -> u64
     rows.iter().map(|row| row.len() as u64).sum()
 }
 
-/// Appends decoded rows, which fit the table and whose texts and byte strings have at most this many bytes.
+/// The command that appends the rows of a message to a write stream, which together have fewer than 2^32 bytes, as do
+/// those before them in the message; or those rows that are refused, at most the first 100.
+///
+/// A table of the columns that the binding was made for takes the command.
+pub fn prepare(
+    alloc: Global,
+    stream: StreamRef,
+    binding: &Binding,
+    offset: Option<i64>,
+    rows: &[Blob],
+) -> Result<Command, RowsFault>
+    requires few { length rows.now < 2 ^ 32 }
+    requires small { sum_by length rows.now < 2 ^ 32 }
+    ensures value { Prepares stream binding.now offset rows.now result }
+    ensures taken { (columns : List Column) → IsBoundTo columns binding.now → IfOk result (Takes columns) }
+{
+    match decode_rows(alloc, binding, rows) {
+        Ok(decoded) => Ok(Command::Append {
+            stream,
+            offset,
+            rows: Items::from_vec(decoded),
+            bytes: size_of(rows),
+        }),
+        Err(fault) => Err(fault),
+    }
+}
+
+/// Appends by a prepared command.
 fn append(
     alloc: Global,
     table: &mut Engine,
     asker: Asker,
-    offset: Option<i64>,
-    rows: Vec<Row>,
-    bytes: u64,
+    command: Command,
 ) -> Result<AppendRowsResponse, NoResponse>
-    requires fit { All (Fits table.old.columns) rows.items }
-    requires size { sum_by bytes_of_row rows.items ≤ bytes }
+    requires taken { Takes table.old.columns command }
     requires in_time { asker.now ≤ℤ LATEST_READING }
-    ensures outcome { Responds table.old table.new (on_decoded asker table.old offset bytes rows.items) result }
+    ensures outcome { Responds table.old table.new (on_asked asker table.old (to_append command)) result }
     ensures columns { table.new.columns ≡ table.old.columns }
 {
-    let command = Command::Append {
-        stream: asker.stream,
-        offset,
-        rows: Items::from_vec(rows),
-        bytes,
-    };
     let reply = table.step(alloc, asker.caller, command, asker.now)?;
     match told(alloc, table.schema().columns(), &reply) {
+        Ok(response) => Ok(response),
+        Err(Memory) => Err(NoResponse::Lost),
+    }
+}
+
+/// Refuses rows for this cause, with these rows at fault, unless the stream isn't there.
+fn refuse(
+    alloc: Global,
+    table: &mut Engine,
+    asker: Asker,
+    cause: &Why,
+    faults: &[RowFault],
+) -> Result<AppendRowsResponse, NoResponse>
+    requires in_time { asker.now ≤ℤ LATEST_READING }
+    ensures outcome { Responds table.old table.new (on_asked asker table.old (without_rows asker.stream cause.now faults.now)) result }
+    ensures columns { table.new.columns ≡ table.old.columns }
+{
+    let ask = Command::Get {
+        stream: asker.stream,
+    };
+    let reply = table.step(alloc, asker.caller, ask, asker.now)?;
+    match told_without_rows(alloc, table.schema().columns(), cause, faults, &reply) {
         Ok(response) => Ok(response),
         Err(Memory) => Err(NoResponse::Lost),
     }
@@ -107,16 +148,13 @@ pub fn answer_rows(
 {
     let binding = match writer {
         Ok(binding) => binding,
-        Err(cause) => return Ok(refused(alloc, table.schema().columns(), cause, &[])?),
+        Err(cause) => return refuse(alloc, table, asker, cause, &[]),
     };
-    match decode_rows(alloc, binding, rows) {
-        Ok(decoded) => append(alloc, table, asker, offset, decoded, size_of(rows)),
-        Err(RowsFault::Refused(faults)) => Ok(refused(
-            alloc,
-            table.schema().columns(),
-            &Why::BadRows,
-            faults.faults(),
-        )?),
+    match prepare(alloc, asker.stream, binding, offset, rows) {
+        Ok(command) => append(alloc, table, asker, command),
+        Err(RowsFault::Refused(faults)) => {
+            refuse(alloc, table, asker, &Why::BadRows, faults.faults())
+        }
         Err(RowsFault::Memory) => Err(NoResponse::Undone),
     }
 }

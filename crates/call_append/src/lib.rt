@@ -12,7 +12,7 @@ mod responses;
 mod texts;
 mod writers;
 
-pub use appends::{Asker, NoResponse, answer_rows};
-pub use responses::{FIELDS_ERROR, refused, told};
-pub use texts::SHOWN_CHARACTERS;
+pub use appends::{Asker, NoResponse, answer_rows, prepare};
+pub use responses::{FIELDS_ERROR, refused, told, told_without_rows};
+pub use texts::{MAX_TEXT_BYTES, SHOWN_CHARACTERS, cause_text};
 pub use writers::{Writer, bind_writer};

@@ -1,7 +1,7 @@
 //! The responses to messages.
 
 ghost use Rattle.std.specs.Prelude.{◌≡◌, map, IfOk, []};
-ghost use Rattle.call_append.specs.Response.{accepted, refused, row_error, told};
+ghost use Rattle.call_append.specs.Response.{accepted, refused, row_error, told, told_without_rows};
 
 use crate::texts::{cause_text, row_text};
 use column_types::Column;
@@ -84,5 +84,22 @@ pub fn told(alloc: Global, columns: &[Column], reply: &Reply) -> Result<AppendRo
         Reply::Appended { offset } => Ok(accepted(alloc, *offset)),
         Reply::Refused(refusal) => refused(alloc, columns, &refusal.why, &[]),
         _ => Ok(accepted(alloc, None)),
+    }
+}
+
+/// The response to a message whose rows can't be appended for this cause, with these rows at fault: what a table told
+/// when it was asked for the stream. That the stream isn't there counts first.
+pub fn told_without_rows(
+    alloc: Global,
+    columns: &[Column],
+    cause: &Why,
+    faults: &[RowFault],
+    reply: &Reply,
+) -> Result<AppendRowsResponse, Memory>
+    ensures { IfOk result (λ response. response ≡ told_without_rows columns.now cause.now faults.now reply.now) }
+{
+    match reply {
+        Reply::Refused(refusal) => refused(alloc, columns, &refusal.why, &[]),
+        _ => refused(alloc, columns, cause, faults),
     }
 }

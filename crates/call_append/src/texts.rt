@@ -1,9 +1,10 @@
 //! The texts of refusals.
 
-ghost use Rattle.std.specs.Prelude.{◌≡◌, ◌++◌, IfOk, OnOk, string_bytes};
-ghost use Rattle.call_append.specs.Texts.{cause_text, column_name, name_in, row_text, shown as shown_of};
+ghost use Rattle.std.specs.Prelude.{◌≡◌, ◌≤◌, ◌++◌, IfOk, OnOk, decimal, length, string_bytes};
+ghost use Rattle.call_append.specs.Texts.{carried_in, cause_text, column_name, row_text, shown as shown_of};
 
 use column_types::Column;
+use itoa::Buffer;
 use outside::{Memory, Text};
 use row_decode::RowWhy;
 use std::alloc::Global;
@@ -11,6 +12,9 @@ use table_model::Why;
 
 /// The most characters of a name that a text shows.
 pub const SHOWN_CHARACTERS: usize = 128;
+
+/// The bytes of the longest text of a cause.
+pub const MAX_TEXT_BYTES: usize = 1024;
 
 /// Adds the first characters of a name.
 fn show(text: &mut String, name: &str) -> Result<(), Memory>
@@ -22,26 +26,47 @@ fn show(text: &mut String, name: &str) -> Result<(), Memory>
     Ok(())
 }
 
-/// Adds the name that a cause carries, if it carries one.
-fn show_name(text: &mut String, cause: &Why) -> Result<(), Memory>
-    ensures { OnOk result (string_bytes text.new ≡ string_bytes text.old ++ name_in cause.now) }
+/// Adds a number in decimal.
+fn show_number(text: &mut String, number: usize) -> Result<(), Memory>
+    ensures { OnOk result (string_bytes text.new ≡ string_bytes text.old ++ decimal number) }
+{
+    let mut buffer = Buffer::new();
+    text.push_str(buffer.format(number))?;
+    Ok(())
+}
+
+/// Adds what a cause carries: a name by its first characters, or a place in decimal.
+fn show_carried(text: &mut String, cause: &Why) -> Result<(), Memory>
+    ensures { OnOk result (string_bytes text.new ≡ string_bytes text.old ++ carried_in cause.now) }
 {
     match cause {
-        Why::ExtraField { name } | Why::TypeMismatch { name } | Why::MissingRequired { name } => {
-            show(text, name.text())
-        }
+        Why::ExtraField { name }
+        | Why::TypeMismatch { name }
+        | Why::MissingRequired { name }
+        | Why::UnknownColumn { name }
+        | Why::IllTyped { name } => show(text, name.text()),
+        Why::Syntax { at } => show_number(text, *at),
         _ => Ok(()),
     }
 }
 
-/// The text for a cause of a refused append: its phrase, and the first 128 characters of the name that it carries.
-pub(crate) fn cause_text(alloc: Global, cause: &Why) -> Result<Text, Memory>
+/// The phrase of a cause and what it carries.
+fn phrase_and_carried(alloc: Global, cause: &Why) -> Result<Text, Memory>
     ensures { IfOk result (λ text. text ≡ cause_text cause.now) }
 {
     let mut text = String::new(alloc);
     text.push_str(cause.phrase())?;
-    show_name(&mut text, cause)?;
+    show_carried(&mut text, cause)?;
     Ok(Text::from_string(text))
+}
+
+/// The text for a cause of a refusal, of at most 1,024 bytes: its phrase, and the first 128 characters of the name, or
+/// the place, that it carries.
+pub fn cause_text(alloc: Global, cause: &Why) -> Result<Text, Memory>
+    ensures value { IfOk result (λ text. text ≡ cause_text cause.now) }
+    ensures short { IfOk result (λ text. length text ≤ MAX_TEXT_BYTES) }
+{
+    phrase_and_carried(alloc, cause)
 }
 
 /// This phrase and the name of the column of this number.
