@@ -1,5 +1,4 @@
 pub mod TextLemmas
 pub mod BodyLemmas
-pub mod WordsLemmas
 pub mod TypedLemmas
 pub mod RunLemmas

@@ -4,5 +4,4 @@ pub mod Typed
 pub mod Body
 pub mod Inner
 pub mod Fault
-pub mod Words
 pub mod Runs

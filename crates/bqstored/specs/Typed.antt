@@ -63,3 +63,8 @@ abbrev pub Encoded : AppendRowsResponse → Result (List ℕ) NoResponse → Typ
 Encoded response (Ok reply) = reply ≡ append_rows_response_bytes response
 Encoded response (Err none.Undone) = ⊥
 Encoded response (Err none.Lost) = Unit {0}
+
+-- the bytes of a response, or why there is none
+abbrev pub Replied : Result AppendRowsResponse NoResponse → Result (List ℕ) NoResponse → Type 0
+Replied (Ok response) reply = Encoded response reply
+Replied (Err cause) reply = reply ≡ Err cause

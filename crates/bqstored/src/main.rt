@@ -20,7 +20,6 @@ mod tests;
 mod typed_table;
 #[cfg(test)]
 mod typed_tests;
-mod words;
 
 use commands::{USAGE, WANT_OF_MEMORY, run};
 use outside::{StdSink, StdSource};

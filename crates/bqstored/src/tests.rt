@@ -179,13 +179,16 @@ fn a_fault_has_its_status(rt: HostRuntime) -> Result<(), Fail> {
 
 #[test]
 fn other_words_do_nothing(rt: HostRuntime) -> Result<(), Fail> {
-    let words = vec![in rt.alloc(); String::from_str(rt.alloc(), "pipe")?]?;
     let mut source = MemSource::new(rt.alloc(), FIRST.to_vec(rt.alloc())?, Vec::new(rt.alloc()));
     let mut sink = MemSink::new(rt.alloc(), Vec::new(rt.alloc()));
-    assert_eq!(rt;
-        run(rt.alloc(), words.as_slice(), &mut source, &mut sink),
-        2
-    );
+    for line in [["pipe", "--table"], ["drill", "02"], ["drill", "2"]] {
+        let mut words = Vec::new(rt.alloc());
+        for word in line {
+            words.push(String::from_str(rt.alloc(), word)?)?;
+        }
+        let status = run(rt.alloc(), words.as_slice(), &mut source, &mut sink);
+        assert_eq!(rt; status, 2);
+    }
     assert_eq!(rt; run(rt.alloc(), &[], &mut source, &mut sink), 2);
     assert_eq!(rt; sink.taken().len(), 0);
     Ok(())

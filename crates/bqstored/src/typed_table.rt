@@ -4,7 +4,7 @@ ghost use Rattle.row_descriptor.specs.Binding.{IsBoundTo};
 ghost use Rattle.call_body.specs.Answers.{AnswersOne};
 ghost use Rattle.call_append.specs.Writer.{no_writer, rows_named, schema_named, writer_of};
 ghost use Rattle.call_append.specs.Sizes.{IsWithin};
-ghost use Rattle.bqstored.specs.Typed.{Answered, AnswersFromTyped, Encoded, fresh, is_decodable};
+ghost use Rattle.bqstored.specs.Typed.{Answered, AnswersFromTyped, Encoded, Replied, fresh, is_decodable};
 
 use call_append::{Asker, NoResponse, Writer, answer_rows, bind_writer};
 use call_body::{Answer, Answers};
@@ -145,8 +145,8 @@ impl TypedTable {
     {
         let rows = rows_named(request);
         let offset = request.offset;
-        let response = answer_rows(alloc, &mut self.table, ASKER, &self.writer, offset, rows)?;
-        encoded(alloc, &response)
+        let told = answer_rows(alloc, &mut self.table, ASKER, &self.writer, offset, rows);
+        replied(alloc, told)
     }
 
     /// Answers a request whose rows and descriptor have fewer than 2^32 bytes.
@@ -173,6 +173,16 @@ fn encoded(alloc: Global, response: &AppendRowsResponse) -> Result<Blob, NoRespo
     match response.encode(alloc) {
         Ok(reply) => Ok(reply),
         Err(Memory) => Err(NoResponse::Lost),
+    }
+}
+
+/// The bytes of a response that may be wanting.
+fn replied(alloc: Global, told: Result<AppendRowsResponse, NoResponse>) -> Result<Blob, NoResponse>
+    ensures { Replied told result }
+{
+    match told {
+        Ok(response) => encoded(alloc, &response),
+        Err(cause) => Err(cause),
     }
 }
 
