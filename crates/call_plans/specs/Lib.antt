@@ -1,0 +1,16 @@
+pub mod Endings
+pub mod Names
+pub mod Moments
+pub mod Columns
+pub mod Described
+pub mod Appending
+pub mod Creating
+pub mod Getting
+pub mod Finalising
+pub mod Flushing
+pub mod Twice
+pub mod Committed
+pub mod Committing
+pub mod Plans
+pub mod Replies
+pub mod Laws
