@@ -1,0 +1,3 @@
+mod LossLemmas
+mod ReadLemmas
+mod TableLemmas
