@@ -8,8 +8,6 @@ mod avro_rows_tests;
 #[cfg(test)]
 mod column_types_tests;
 #[cfg(test)]
-mod command_line_tests;
-#[cfg(test)]
 mod row_decode_tests;
 #[cfg(test)]
 mod row_descriptor_tests;
