@@ -1,3 +1,6 @@
-mod LossLemmas
+mod ColumnLemmas
 mod ReadLemmas
-mod TableLemmas
+mod StreamLemmas
+mod UnknownLemmas
+mod CodeLemmas
+mod CommitLemmas

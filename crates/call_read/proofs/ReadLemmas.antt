@@ -8,7 +8,7 @@ use Rattle.open_tables.specs.Tables.{TableView}
 use Rattle.open_tables.specs.Plans.{Plan, Fixed, Gets}
 use Rattle.conn_requests.specs.declared.answers.Answer.{Answer}
 use Rattle.call_plans.specs.Endings.{unreadable}
-use Rattle.call_read.specs.Broken.{IsBroken}
+use Rattle.call_names.specs.Broken.{IsBroken}
 
 pub read_err : {X : Type 0} (broken : MsgFault) (read : Result X MsgFault) → IsBroken broken → ReadsAs (Err broken) read → read ≡ Err broken
 read_err fault.Memory read is reads = absurd is

@@ -1,1 +1,4 @@
-pub mod Broken
+pub mod Codes
+pub mod Deciding
+pub mod Lines
+pub mod Streams

@@ -1,8 +1,7 @@
 //! The answers that end a call of one message.
 
 ghost use Rattle.std.specs.Prelude.{◌≡◌, IfOk};
-ghost use Rattle.call_plans.specs.Endings.{refusal_answer, refused_for, responded, unreadable};
-ghost use Rattle.call_read.specs.Broken.{IsBroken};
+ghost use Rattle.call_plans.specs.Endings.{refusal_answer, refused_for, responded};
 
 use call_append::cause_text;
 use conn_requests::Answer;
@@ -10,7 +9,6 @@ use grpc_meta::Status;
 use outside::{Blob, Blobs, Memory, Text};
 use std::alloc::Global;
 use table_model::{Refusal, Why};
-use write_msgs::MsgFault;
 
 /// The status of a refusal.
 pub(crate) fn refusal_answer(alloc: Global, refusal: &Refusal) -> Result<Answer, Memory>
@@ -43,22 +41,4 @@ pub(crate) fn responded(alloc: Global, message: Blob) -> Result<Answer, Memory>
         text: Text::of(alloc, "")?,
     };
     Ok(Answer::Ends(Blobs::from_vec(messages), status))
-}
-
-/// The status of a message that can't be read.
-pub(crate) fn unreadable(alloc: Global, fault: MsgFault) -> Result<Answer, Memory>
-    ensures value { IfOk result (λ answer. answer ≡ unreadable fault) }
-    ensures broken { IfOk result (λ answer. IsBroken fault) }
-{
-    let (code, text) = match fault {
-        MsgFault::Memory => return Err(Memory),
-        MsgFault::BadProto { at } => (3, format!(in alloc; "malformed message at {at}")?),
-        MsgFault::Unsupported { field } => (12, format!(in alloc; "unsupported field {field}")?),
-        MsgFault::BadUtf8 { field } => (3, format!(in alloc; "bad text in field {field}")?),
-    };
-    let status = Status {
-        code,
-        text: Text::from_string(text),
-    };
-    Ok(Answer::Ends(Blobs::from_vec(Vec::new(alloc)), status))
 }

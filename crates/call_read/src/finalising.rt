@@ -8,8 +8,8 @@ ghost use Rattle.open_tables.specs.Plans.{At, Gets, Loses};
 ghost use Rattle.table_spec.specs.declared.spec.TableSpec.{TableSpec};
 ghost use Rattle.call_plans.specs.Finalising.{told_finalised, finalise_turn, finalise_on, finalise_plan};
 
-use crate::answers::{refusal_answer, refused_for, responded, unreadable};
-use crate::names::{find, name_of, ref_of};
+use crate::answers::{refusal_answer, refused_for, responded};
+use call_names::{find, name_of, ref_of, unreadable};
 use conn_requests::Answer;
 use open_tables::{Passes, Tables};
 use outside::{Blob, Memory};
@@ -58,7 +58,7 @@ fn finalise_at<R: Wait>(
     }
 }
 
-#[tactic(auto, using(crate::proofs::LossLemmas::untouched))]
+#[tactic(auto, using(call_names::proofs::LossLemmas::untouched))]
 fn finalise_named<R: Wait>(
     tables: &Tables,
     rt: &R,
@@ -83,7 +83,7 @@ fn finalise_named<R: Wait>(
     }
 }
 
-#[tactic(auto, using(crate::proofs::LossLemmas::untouched))]
+#[tactic(auto, using(call_names::proofs::LossLemmas::untouched))]
 fn finalise_text<R: Wait>(
     tables: &Tables,
     rt: &R,
@@ -109,7 +109,7 @@ fn finalise_text<R: Wait>(
 /// the clock, in microseconds since 1970-01-01.
 ///
 /// At want of memory the answer is lost: nothing was entered, or all but the answer was done.
-#[tactic(auto, using(crate::proofs::LossLemmas::untouched), unfolding(call_plans::specs::Finalising::finalise_plan))]
+#[tactic(auto, using(call_names::proofs::LossLemmas::untouched), unfolding(call_plans::specs::Finalising::finalise_plan))]
 pub fn finalise<R: Wait>(
     tables: &Tables,
     rt: &R,

@@ -7,7 +7,7 @@ use Rattle.open_tables.specs.Tables.{specs_of}
 use Rattle.open_tables.specs.Plans.{Plan, At, Gets, Loses}
 use Rattle.call_plans.specs.Endings.{refused_for}
 use Rattle.call_plans.specs.Finalising.{finalise_turn}
-use Rattle.call_read.proofs.TableLemmas.{on_table-there}
+use Rattle.call_names.proofs.TableLemmas.{on_table-there}
 use Rattle.call_read.proofs.finalising.finalise_named.Goals as goal
 
 pub returns-in-Ok-Some-clause-gets : goal.returns-in-Ok-Some-clause-gets
