@@ -1,0 +1,4 @@
+pub mod GivingLemmas
+pub mod AskingLemmas
+pub mod FreshLemmas
+pub mod HeedingLemmas

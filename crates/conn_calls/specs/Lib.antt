@@ -1,0 +1,4 @@
+pub mod Calls
+pub mod Heard
+pub mod Giving
+pub mod Answering
