@@ -5,7 +5,7 @@
 //! (`specs/Computed`); each frame that was written was due in its place; the connection is quiet wherever it waits
 //! (`specs/Quiet`); and each [`Ending`] has its cause (`specs/Ends`). `specs/Going` is what a loop over the frames keeps.
 //!
-//! No command serves a connection by these definitions yet. The laws compute nothing:
+//! The laws compute nothing:
 //!
 //! - [`served_is_computed`]: where no other pass acts, answers and histories are computed.
 //! - [`due_is_in_order`]: where each frame was due, what was written is a front of what was to be written.

@@ -1,0 +1,4 @@
+pub mod Shown
+pub mod Settling
+pub mod Hearing
+pub mod Rounds
