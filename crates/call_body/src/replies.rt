@@ -23,8 +23,8 @@ pub(crate) enum Step {
     Memory,
 }
 
-/// Writes all bytes. False where the sink met a fault.
-fn write_all<O: Sink>(out: &mut O, bytes: &[u8]) -> bool
+/// Writes all bytes. False where the sink met a fault behind the first of them; its count of faults then rose.
+pub fn write_all<O: Sink>(out: &mut O, bytes: &[u8]) -> bool
     ensures { WritesAll (O.taken out.old) (O.taken out.new) (O.faults out.old) (O.faults out.new) bytes.now result }
 {
     let mut rest = bytes;
