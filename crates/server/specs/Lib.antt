@@ -1,0 +1,4 @@
+pub mod Report
+pub mod Visits
+pub mod Serving
+pub mod Links
