@@ -1,5 +1,5 @@
--- A body for which memory was wanting at its start.
-use Rattle.std.proofs.Common.{subst, ◌≡◌, ◌⊎◌, inl, inr, ℕ, ◌+◌, List, [], ◌++◌, take, Option, Some, None, Err, IfSome, refl, sym, arith}
+-- A run of the program: what its line does, and a run for which memory was wanting at its start.
+use Rattle.std.proofs.Common.{subst, ◌≡◌, inl, inr, ℕ, ◌+◌, List, [], take, Option, Some, None, Err, IfSome, refl, sym, arith}
 use Rattle.std.specs.Io.KnownBytes.{Appends}
 use Rattle.std.proofs.lemmas.List.{append-nil}
 use Rattle.std.specs.Prelude.{Bool}
@@ -15,9 +15,14 @@ use Rattle.command_line.specs.declared.line.LineFault.TheVariants as faults
 use Rattle.command_line.specs.Line.{IsLine}
 use Rattle.command_line.specs.Reads.{Reads}
 use Rattle.command_line.proofs.LineLemmas.{one_line}
-use Rattle.bqstored.specs.Runs.{IsBodyLine, OnBody, OnOther, RunsBody, RunsNone, status_without}
+use Rattle.conn_service.specs.declared.ending.Ending.TheVariants as ending
+use Rattle.server.specs.declared.faults.ServeFault.TheVariants as serves
+use Rattle.server.specs.Visits.{LinkShows}
+use Rattle.bqstored.specs.Outside.{Objects, StandardStreams, Shows}
+use Rattle.bqstored.specs.Runs.{RunsNone, Runs, status_without}
 use Rattle.bqstored.specs.Body.{BodyRan, RanOver, is_readable, AnswersFromTable}
 use Rattle.bqstored.specs.Typed.{is_decodable, AnswersFromTyped, fresh}
+use Rattle.bqstored.proofs.PipeLemmas.{nothing_piped}
 
 appends_none : (t : Option (List ℕ)) → Appends t t []
 appends_none None = tt
@@ -38,35 +43,43 @@ takes_none : (most : ℕ) (left : Option (List ℕ)) → TakesAtMost most left l
 takes_none most None = tt
 takes_none most (Some bytes) = ([], omega arith, refl)
 
-pub nothing_ran : {S : Type 0} (readable : List ℕ → Bool) (answers : S → List ℕ → List ℕ → S → Type 0) (start : S) (left taken : Option (List ℕ)) (a b : ℕ)
-    → BodyRan readable answers start left left taken taken a a b b ends.Memory
-nothing_ran readable answers start left taken a b =
-    record { ending = ([], appends_none taken, unread readable answers start left); cause = (refl, refl); read = tt; takes = takes_none (BODY_LIMIT + 1) left; complete = unread_complete readable left a b }
+pub nothing_ran : {S : Type 0} (readable : List ℕ → Bool) (answers : S → List ℕ → List ℕ → S → Type 0) (start : S) (streams : StandardStreams)
+    → BodyRan readable answers start streams streams ends.Memory
+nothing_ran readable answers start s = record {
+  ending = ([], appends_none s.taken, unread readable answers start s.left);
+  cause = (refl, refl);
+  read = tt;
+  takes = takes_none (BODY_LIMIT + 1) s.left;
+  complete = unread_complete readable s.left s.source_faults s.sink_faults;
+}
 
-pub nothing_ran_over : (table : Option TableSpec) (left taken : Option (List ℕ)) (a b : ℕ) → RanOver table left left taken taken a a b b ends.Memory
-nothing_ran_over None left taken a b = nothing_ran is_readable AnswersFromTable [] left taken a b
-nothing_ran_over (Some spec) left taken a b = nothing_ran is_decodable AnswersFromTyped (fresh spec.schema) left taken a b
+nothing_ran_over : (table : Option TableSpec) (streams : StandardStreams) → RanOver table streams streams ends.Memory
+nothing_ran_over None s = nothing_ran is_readable AnswersFromTable [] s
+nothing_ran_over (Some spec) s = nothing_ran is_decodable AnswersFromTyped (fresh spec.schema) s
 
--- words that are this line of `body`, and no other
-pub body_runs : (words : List (List ℕ)) (l : CommandLine) (table : Option TableSpec) (Runs : Option TableSpec → Type 0)
-    → IsLine words l → IsBodyLine words table → OnBody l Runs → Runs table
-body_runs words l table Runs is body runs = subst (λ (a : CommandLine). OnBody a Runs) (one_line words l (line.Body table) is body) runs
+-- the words are this line, and no other
+pub line_runs : {L D P C I O : Type 0} (shows : L → LinkShows) (words : List (List ℕ)) (read due : CommandLine) (old new : Objects D P C I O) (before after : Shows L) (status : ℕ)
+    → IsLine words read → IsLine words due → Runs shows read old new before after status → Runs shows due old new before after status
+line_runs shows words read due old new before after status is wanted runs =
+    subst (λ (l : CommandLine). Runs shows l old new before after status) (one_line words read due is wanted) runs
 
--- words that are a line of another command
-pub other_runs : (words : List (List ℕ)) (l : CommandLine) (Runs : Type 0)
-    → IsLine words l → ((table : Option TableSpec) → IsBodyLine words table → ⊥) → OnOther l Runs → Runs
-other_runs words (line.Body table) Runs is none runs = absurd (none table is)
-other_runs words (line.Pipe tables) Runs is none runs = runs
-other_runs words (line.Serve listen workers connections tables) Runs is none runs = runs
-other_runs words (line.Drill n) Runs is none runs = runs
+-- memory was wanting while the line was read
+unrun : {L D P C I O : Type 0} (shown : L → LinkShows) (l : CommandLine) (objects : Objects D P C I O) (shows : Shows L) (status : ℕ) → status ≡ 4 → Runs shown l objects objects shows shows status
+unrun shown (line.Body table) objects shows status is =
+    record { end = ends.Memory; status_is = is; ran = nothing_ran_over table shows.streams; door = refl; pipe = refl; clock = refl }
+unrun shown (line.Pipe specs) objects shows status is =
+    record { end = ending.Memory; status_is = is; ran = nothing_piped specs shows.pipe; closed = inl is; door = refl; input = refl; out = refl }
+unrun shown (line.Serve listen workers connections specs) objects shows status is =
+    record { end = Err serves.Memory; status_is = is; served = tt; cause = (refl, refl); pipe = refl; input = refl }
+unrun shown (line.Drill n) objects shows status is = (inr is, refl)
 
 -- words that gave no line
-pub runs_none : {I O : Type 0} (fault : LineFault) (status : ℕ) (input : I) (out : O) → status ≡ status_without fault → RunsNone status input input out out
-runs_none faults.Usage status input out is = (inl is, refl, refl)
-runs_none faults.Memory status input out is = (inr is, refl, refl)
+pub runs_none : {D P C I O : Type 0} (fault : LineFault) (objects : Objects D P C I O) (status : ℕ) → status ≡ status_without fault → RunsNone objects objects status
+runs_none faults.Usage objects status is = (inl is, refl)
+runs_none faults.Memory objects status is = (inr is, refl)
 
--- words of `body` give no line only where memory was wanting
-pub body_unread : (words : List (List ℕ)) (fault : LineFault) (table : Option TableSpec) (left taken : Option (List ℕ)) (a b status : ℕ)
-    → Reads (λ l. l) (IsLine words) (Err fault) → IsBodyLine words table → status ≡ status_without fault → RunsBody table left left taken taken a a b b status
-body_unread words faults.Usage table left taken a b status refused body is = absurd (refused (line.Body table) body)
-body_unread words faults.Memory table left taken a b status refused body is = (ends.Memory, is, nothing_ran_over table left taken a b)
+-- words of a line give none only where memory was wanting
+pub line_unread : {L D P C I O : Type 0} (shown : L → LinkShows) (words : List (List ℕ)) (fault : LineFault) (due : CommandLine) (objects : Objects D P C I O) (shows : Shows L) (status : ℕ)
+    → Reads (λ l. l) (IsLine words) (Err fault) → IsLine words due → status ≡ status_without fault → Runs shown due objects objects shows shows status
+line_unread shown words faults.Usage due objects shows status refused is told = absurd (refused due is)
+line_unread shown words faults.Memory due objects shows status refused is told = unrun shown due objects shows status told

@@ -6,6 +6,7 @@ use Rattle.call_body.specs.declared.limits.TheConstants.{BODY_LIMIT}
 use Rattle.call_body.specs.declared.ends.BodyEnd.{BodyEnd}
 use Rattle.call_body.specs.declared.ends.BodyEnd.TheVariants as ends
 use Rattle.bqstored.specs.declared.requests.Request.{Request}
+use Rattle.bqstored.specs.Outside.{StandardStreams}
 use Rattle.bqstored.specs.Request.{request_of}
 use Rattle.bqstored.specs.Reply.{reply_at, history_behind}
 use Rattle.table_spec.specs.declared.spec.TableSpec.{TableSpec}
@@ -24,20 +25,18 @@ AnswersFromTable history message reply next =
 -- One run over a source and a sink, of what answers messages so from a state on: what was written is the framed replies,
 -- in order, to the messages read, each answered at what the messages before it left; after a fault or want of memory it is
 -- the first bytes of these.
-pub record BodyRan {S : Type 0} (readable : List ℕ → Bool) (answers : S → List ℕ → List ℕ → S → Type 0) (start : S) (left0 left taken0 taken : Option (List ℕ)) (source_faults0 source_faults sink_faults0 sink_faults : ℕ) (end : BodyEnd) : Type 0 where
-  pub ending : (replied : List ℕ) × Writes taken0 taken replied end
-      × IfSome left0 (λ bytes. (last : S) × EndsAs readable answers bytes replied start last end)
-  pub cause : HasCause source_faults0 source_faults sink_faults0 sink_faults end
-  pub read : ReadsAll left0 left end
-  pub takes : TakesAtMost (BODY_LIMIT + 1) left0 left
-  pub complete : IfSome left0 (λ bytes. IsGoodBody readable bytes → (Rose source_faults0 source_faults → ⊥) → (Rose sink_faults0 sink_faults → ⊥) → IsDoneOrMemory end)
+pub record BodyRan {S : Type 0} (readable : List ℕ → Bool) (answers : S → List ℕ → List ℕ → S → Type 0) (start : S) (old new : StandardStreams) (end : BodyEnd) : Type 0 where
+  pub ending : (replied : List ℕ) × Writes old.taken new.taken replied end
+      × IfSome old.left (λ bytes. (last : S) × EndsAs readable answers bytes replied start last end)
+  pub cause : HasCause old.source_faults new.source_faults old.sink_faults new.sink_faults end
+  pub read : ReadsAll old.left new.left end
+  pub takes : TakesAtMost (BODY_LIMIT + 1) old.left new.left
+  pub complete : IfSome old.left (λ bytes. IsGoodBody readable bytes → (Rose old.source_faults new.source_faults → ⊥) → (Rose old.sink_faults new.sink_faults → ⊥) → IsDoneOrMemory end)
 
 -- Without a table the rows are opaque bytes in one stream, and with one they are typed.
-abbrev pub RanOver : Option TableSpec → Option (List ℕ) → Option (List ℕ) → Option (List ℕ) → Option (List ℕ) → ℕ → ℕ → ℕ → ℕ → BodyEnd → Type 0
-RanOver None left0 left taken0 taken source_faults0 source_faults sink_faults0 sink_faults end =
-    BodyRan is_readable AnswersFromTable [] left0 left taken0 taken source_faults0 source_faults sink_faults0 sink_faults end
-RanOver (Some spec) left0 left taken0 taken source_faults0 source_faults sink_faults0 sink_faults end =
-    BodyRan is_decodable AnswersFromTyped (fresh spec.schema) left0 left taken0 taken source_faults0 source_faults sink_faults0 sink_faults end
+abbrev pub RanOver : Option TableSpec → (old new : StandardStreams) → BodyEnd → Type 0
+RanOver None old new end = BodyRan is_readable AnswersFromTable [] old new end
+RanOver (Some spec) old new end = BodyRan is_decodable AnswersFromTyped (fresh spec.schema) old new end
 
 -- the status of the program
 abbrev pub status_of : BodyEnd → ℕ

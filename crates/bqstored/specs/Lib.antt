@@ -1,7 +1,10 @@
 pub mod Request
 pub mod Reply
 pub mod Typed
+pub mod Outside
 pub mod Body
+pub mod Pipe
+pub mod Serve
 pub mod Inner
 pub mod Fault
 pub mod Runs

@@ -1,5 +1,5 @@
--- A run of the program: its status, what it read and what it wrote.
-use Rattle.std.specs.Prelude.{◌≡◌, ℕ, List, Option}
+-- A run of the program: its status, and what it did outside.
+use Rattle.std.specs.Prelude.{◌≡◌, ℕ, ◌<◌, true, List, Option, Result, OnOk}
 use Rattle.std.proofs.Common.{◌⊎◌}
 use Rattle.call_body.specs.declared.ends.BodyEnd.{BodyEnd}
 use Rattle.table_spec.specs.declared.spec.TableSpec.{TableSpec}
@@ -7,35 +7,65 @@ use Rattle.command_line.specs.declared.line.CommandLine.{CommandLine}
 use Rattle.command_line.specs.declared.line.CommandLine.TheVariants as line
 use Rattle.command_line.specs.declared.line.LineFault.{LineFault}
 use Rattle.command_line.specs.declared.line.LineFault.TheVariants as fault
-use Rattle.command_line.specs.Line.{IsLine}
+use Rattle.open_tables.specs.Tables.{AreTables}
+use Rattle.conn_service.specs.declared.ending.Ending.{Ending}
+use Rattle.bqstored.specs.Outside.{Objects, Shows}
 use Rattle.bqstored.specs.Body.{RanOver, status_of}
+use Rattle.server.specs.declared.faults.ServeFault.{ServeFault}
+use Rattle.server.specs.Visits.{LinkShows}
+use Rattle.server.specs.Serving.{ServeCause}
+use Rattle.bqstored.specs.Pipe.{Pipes, status_of_ending}
+use Rattle.bqstored.specs.Serve.{ServesNew, status_of_serve}
 
--- `body`, with this table or with none
-abbrev pub IsBodyLine : List (List ℕ) → Option TableSpec → Type 0
-IsBodyLine words table = IsLine words (line.Body table)
+-- The words are no line of a command that runs: nothing outside is touched, and the status says so, unless memory was
+-- wanting.
+abbrev pub RunsNone : {D P C I O : Type 0} → (old new : Objects D P C I O) → (status : ℕ) → Type 0
+RunsNone old new status = ((status ≡ 2) ⊎ (status ≡ 4)) × (new ≡ old)
 
--- Words that are no line of `body`: nothing is read or written, and the status says so, unless memory was wanting.
-abbrev pub RunsNone : {I O : Type 0} → ℕ → I → I → O → O → Type 0
-RunsNone status input0 input out0 out = ((status ≡ 2) ⊎ (status ≡ 4)) × (input ≡ input0) × (out ≡ out0)
+-- `body`, with this table or with none: a body ends, the status is that of its end, and no connection is touched.
+pub record RunsBody (table : Option TableSpec) {L D P C I O : Type 0} (old new : Objects D P C I O) (before after : Shows L) (status : ℕ) : Type 0 where
+  pub end : BodyEnd
+  pub status_is : status ≡ status_of end
+  pub ran : RanOver table before.streams after.streams end
+  pub door : new.door ≡ old.door
+  pub pipe : new.pipe ≡ old.pipe
+  pub clock : new.clock ≡ old.clock
 
--- a body ends, and the status is that of its end
-abbrev pub RunsBody : Option TableSpec → Option (List ℕ) → Option (List ℕ) → Option (List ℕ) → Option (List ℕ) → ℕ → ℕ → ℕ → ℕ → ℕ → Type 0
-RunsBody table left0 left taken0 taken source_faults0 source_faults sink_faults0 sink_faults status =
-    (end : BodyEnd) × (status ≡ status_of end) × RanOver table left0 left taken0 taken source_faults0 source_faults sink_faults0 sink_faults end
+-- `pipe`, with these tables: a connection ends, the status is that of its end, and door, input and output aren't touched.
+-- The link is closed, unless memory was wanting.
+pub record RunsPipe (specs : List TableSpec) {L D P C I O : Type 0} (old new : Objects D P C I O) (before after : Shows L) (status : ℕ) : Type 0 where
+  pub end : Ending
+  pub status_is : status ≡ status_of_ending end
+  pub ran : Pipes specs before.pipe after.pipe end
+  pub closed : (status ≡ 4) ⊎ (after.closed ≡ true)
+  pub door : new.door ≡ old.door
+  pub input : new.input ≡ old.input
+  pub out : new.out ≡ old.out
 
--- of a line of `body`, this of its table
-abbrev pub OnBody : CommandLine → (Option TableSpec → Type 0) → Type 0
-OnBody (line.Body table) Holds = Holds table
-OnBody (line.Pipe tables) Holds = Unit {0}
-OnBody (line.Serve listen workers connections tables) Holds = Unit {0}
-OnBody (line.Drill n) Holds = Unit {0}
+-- `serve`, with so many workers, connections at most and these tables: where the status is 0, the connections of the door
+-- were served over new tables, and these were reported. The status is 3 only where a count of faults rose, of the door or of
+-- the output, and 4 where memory was wanting. The link and the input aren't touched.
+pub record RunsServe {L : Type 0} (shows : L → LinkShows) (workers connections : ℕ) (specs : List TableSpec) {D P C I O : Type 0}
+    (old new : Objects D P C I O) (before after : Shows L) (status : ℕ) : Type 0 where
+  pub end : Result (Unit {0}) ServeFault
+  pub status_is : status ≡ status_of_serve end
+  pub served : OnOk end (ServesNew shows specs workers connections before.door after.door before.pipe.readings after.pipe.readings before.streams.taken after.streams.taken)
+  pub cause : ServeCause before.door_faults after.door_faults before.streams.sink_faults after.streams.sink_faults end
+  pub pipe : new.pipe ≡ old.pipe
+  pub input : new.input ≡ old.input
 
--- of a line of another command, this
-abbrev pub OnOther : CommandLine → Type 0 → Type 0
-OnOther (line.Body table) Holds = Unit {0}
-OnOther (line.Pipe tables) Holds = Holds
-OnOther (line.Serve listen workers connections tables) Holds = Holds
-OnOther (line.Drill n) Holds = Holds
+-- What the line of each command does. That of `drill` doesn't run yet.
+abbrev pub Runs : {L D P C I O : Type 0} → (shows : L → LinkShows) → CommandLine → (old new : Objects D P C I O) → (before after : Shows L) → (status : ℕ) → Type 0
+Runs shows (line.Body table) old new before after status = RunsBody table old new before after status
+Runs shows (line.Pipe specs) old new before after status = RunsPipe specs old new before after status
+Runs shows (line.Serve listen workers connections specs) old new before after status = RunsServe shows workers connections specs old new before after status
+Runs shows (line.Drill n) old new before after status = RunsNone old new status
+
+-- the tables of `pipe` and `serve` are some that a server can have, and `serve` has a worker
+abbrev pub HasTables : CommandLine → Type 0
+HasTables (line.Pipe specs) = AreTables specs
+HasTables (line.Serve listen workers connections specs) = (0 < workers) × AreTables specs
+HasTables _ = Unit {0}
 
 -- the status where the words gave no line
 abbrev pub status_without : LineFault → ℕ

@@ -21,8 +21,9 @@ pub fn body<I: Source, O: Sink>(
     input: &mut I,
     out: &mut O,
 ) -> BodyEnd
-    ensures ran { RanOver (option_copied table.entry) (I.left input.old) (I.left input.new) (O.taken out.old) (O.taken out.new)
-        (I.faults input.old) (I.faults input.new) (O.faults out.old) (O.faults out.new) result }
+    ensures ran { RanOver (option_copied table.entry)
+        (record { left = I.left input.old; taken = O.taken out.old; source_faults = I.faults input.old; sink_faults = O.faults out.old })
+        (record { left = I.left input.new; taken = O.taken out.new; source_faults = I.faults input.new; sink_faults = O.faults out.new }) result }
 {
     match table {
         Some(spec) => typed_body(alloc, spec, input, out),
@@ -32,8 +33,9 @@ pub fn body<I: Source, O: Sink>(
 
 /// The body over a table of opaque rows.
 fn opaque_body<I: Source, O: Sink>(alloc: Global, input: &mut I, out: &mut O) -> BodyEnd
-    ensures ran { RanOver None (I.left input.old) (I.left input.new) (O.taken out.old) (O.taken out.new)
-        (I.faults input.old) (I.faults input.new) (O.faults out.old) (O.faults out.new) result }
+    ensures ran { RanOver None
+        (record { left = I.left input.old; taken = O.taken out.old; source_faults = I.faults input.old; sink_faults = O.faults out.old })
+        (record { left = I.left input.new; taken = O.taken out.new; source_faults = I.faults input.new; sink_faults = O.faults out.new }) result }
 {
     let mut table = OpaqueTable::new(alloc);
     answer_body(alloc, &mut table, input, out)
@@ -53,8 +55,9 @@ fn typed_body<I: Source, O: Sink>(
     input: &mut I,
     out: &mut O,
 ) -> BodyEnd
-    ensures ran { RanOver (Some spec.now) (I.left input.old) (I.left input.new) (O.taken out.old) (O.taken out.new)
-        (I.faults input.old) (I.faults input.new) (O.faults out.old) (O.faults out.new) result }
+    ensures ran { RanOver (Some spec.now)
+        (record { left = I.left input.old; taken = O.taken out.old; source_faults = I.faults input.old; sink_faults = O.faults out.old })
+        (record { left = I.left input.new; taken = O.taken out.new; source_faults = I.faults input.new; sink_faults = O.faults out.new }) result }
 {
     match typed_table(alloc, spec) {
         Ok(mut table) => answer_body(alloc, &mut table, input, out),

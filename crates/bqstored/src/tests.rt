@@ -2,9 +2,11 @@ ghost use Rattle.std.specs.Prelude.{◌<◌, ◌≤◌, length, None};
 ghost use Rattle.outside.specs.Streams.{IsReadWithin, ReadTakes, ReadCause, IsWriteWithin, WriteAdds, WriteCause};
 
 use crate::commands::run;
+use doors::MemDoor;
+use links::{MemClock, MemLink, OpenGate};
 use outside::{MemSink, MemSource, Sink, SinkWrite, Source, SourceRead};
-use std::alloc::Global;
 use std::process::Abort;
+use std::sync::Wait;
 use std::test::Fail;
 use table_model::{MAX_ENTRIES, MAX_WEIGHT, ROW_OVERHEAD};
 
@@ -67,14 +69,31 @@ impl Sink for Narrow {
 
 const MANY: usize = 1_000;
 
+/// The status of these words over a source and a sink. No byte comes over the connection.
+pub(crate) fn run_over<R: Wait + AllocGlobal, I: Source, O: Sink>(
+    rt: &R,
+    words: &[String],
+    source: &mut I,
+    sink: &mut O,
+) -> u8 {
+    let alloc = rt.alloc();
+    let mut pipe = MemLink::new(alloc, Vec::new(alloc), Vec::new(alloc), Vec::new(alloc));
+    let mut door = MemDoor::new(alloc, Vec::new(alloc), None);
+    let mut clock = MemClock::new(Vec::new(alloc));
+    run(
+        rt, alloc, words, &mut door, &mut pipe, &mut clock, &OpenGate, source, sink,
+    )
+}
+
 /// What the command `body` writes for an input, and its status.
-fn answer(
-    alloc: Global,
+fn answer<R: Wait + AllocGlobal>(
+    rt: &R,
     input: &[u8],
     most: usize,
     reads: usize,
     writes: usize,
 ) -> Result<(u8, Narrow), Fail> {
+    let alloc = rt.alloc();
     let words = vec![in alloc; String::from_str(alloc, "body")?]?;
     let mut source = Slow {
         inner: MemSource::new(alloc, input.to_vec(alloc)?, Vec::new(alloc)),
@@ -88,19 +107,19 @@ fn answer(
         calls: writes,
         count: 0,
     };
-    let status = run(alloc, words.as_slice(), &mut source, &mut sink);
+    let status = run_over(rt, words.as_slice(), &mut source, &mut sink);
     Ok((status, sink))
 }
 
 /// Whole and byte by byte, the input has this output and status.
-fn expect<R: Abort + AllocGlobal>(
+fn expect<R: Abort + Wait + AllocGlobal>(
     rt: &R,
     input: &[u8],
     output: &[u8],
     status: u8,
 ) -> Result<(), Fail> {
     for most in [MANY, 1] {
-        let (found, sink) = answer(rt.alloc(), input, most, MANY, MANY)?;
+        let (found, sink) = answer(rt, input, most, MANY, MANY)?;
         assert_eq!(rt; found, status);
         assert_eq!(rt; sink.inner.taken(), output);
     }
@@ -166,11 +185,11 @@ fn a_body_ends_in_its_place(rt: HostRuntime) -> Result<(), Fail> {
 fn a_fault_has_its_status(rt: HostRuntime) -> Result<(), Fail> {
     // Byte by byte the source is read once for each byte, and once more at the end.
     for n in 0..FIRST.len() + 1 {
-        let (status, _sink) = answer(rt.alloc(), FIRST, 1, n, MANY)?;
+        let (status, _sink) = answer(&rt, FIRST, 1, n, MANY)?;
         assert_eq!(rt; status, 3);
     }
     for n in 0..9 {
-        let (status, sink) = answer(rt.alloc(), FIRST, 1, MANY, n)?;
+        let (status, sink) = answer(&rt, FIRST, 1, MANY, n)?;
         assert_eq!(rt; status, 3);
         assert_eq!(rt; sink.inner.taken().len(), n);
     }
@@ -186,10 +205,10 @@ fn other_words_do_nothing(rt: HostRuntime) -> Result<(), Fail> {
         for word in line {
             words.push(String::from_str(rt.alloc(), word)?)?;
         }
-        let status = run(rt.alloc(), words.as_slice(), &mut source, &mut sink);
+        let status = run_over(&rt, words.as_slice(), &mut source, &mut sink);
         assert_eq!(rt; status, 2);
     }
-    assert_eq!(rt; run(rt.alloc(), &[], &mut source, &mut sink), 2);
+    assert_eq!(rt; run_over(&rt, &[], &mut source, &mut sink), 2);
     assert_eq!(rt; sink.taken().len(), 0);
     Ok(())
 }

@@ -1,9 +1,9 @@
 //! Bodies over a table, byte for byte.
 
-use crate::commands::run;
+use crate::tests::run_over;
 use outside::{MemSink, MemSource};
-use std::alloc::Global;
 use std::process::Abort;
+use std::sync::Wait;
 use std::test::Fail;
 
 const SPEC: &str = "projects/p/datasets/d/tables/t=id:INT64:REQUIRED,tag:STRING";
@@ -29,7 +29,12 @@ const ROWS_REFUSED: &[u8] =
     b"\x00\x00\x00\x00\x37\x12\x10\x08\x03\x12\x0crows refused\x22\x23\x10\x01\x1a\x1fno value in required column: id";
 
 /// The status of `body --table` with this SPEC over an input, and what it writes.
-fn answer(alloc: Global, spec: &str, input: Vec<u8>) -> Result<(u8, MemSink), Fail> {
+fn answer<R: Wait + AllocGlobal>(
+    rt: &R,
+    spec: &str,
+    input: Vec<u8>,
+) -> Result<(u8, MemSink), Fail> {
+    let alloc = rt.alloc();
     let words = vec![in alloc;
         String::from_str(alloc, "body")?,
         String::from_str(alloc, "--table")?,
@@ -37,12 +42,12 @@ fn answer(alloc: Global, spec: &str, input: Vec<u8>) -> Result<(u8, MemSink), Fa
     ]?;
     let mut source = MemSource::new(alloc, input, Vec::new(alloc));
     let mut sink = MemSink::new(alloc, Vec::new(alloc));
-    let status = run(alloc, words.as_slice(), &mut source, &mut sink);
+    let status = run_over(rt, words.as_slice(), &mut source, &mut sink);
     Ok((status, sink))
 }
 
 /// The messages are answered by these bytes, with status 0.
-fn expect<R: Abort + AllocGlobal>(
+fn expect<R: Abort + Wait + AllocGlobal>(
     rt: &R,
     messages: &[&[u8]],
     output: &[&[u8]],
@@ -55,7 +60,7 @@ fn expect<R: Abort + AllocGlobal>(
     for reply in output {
         wanted.extend_from_slice(reply)?;
     }
-    let (status, sink) = answer(rt.alloc(), SPEC, input)?;
+    let (status, sink) = answer(rt, SPEC, input)?;
     assert_eq!(rt; status, 0);
     assert_eq!(rt; sink.taken(), wanted.as_slice());
     Ok(())
@@ -84,7 +89,7 @@ fn rows_are_decoded_by_their_descriptor(rt: HostRuntime) -> Result<(), Fail> {
 #[test]
 fn columns_differ_without_case(rt: HostRuntime) -> Result<(), Fail> {
     let spec = "projects/p/datasets/d/tables/t=a:INT64,A:BOOL";
-    let (status, sink) = answer(rt.alloc(), spec, Vec::new(rt.alloc()))?;
+    let (status, sink) = answer(&rt, spec, Vec::new(rt.alloc()))?;
     assert_eq!(rt; status, 2);
     assert_eq!(rt; sink.taken().len(), 0);
     Ok(())

@@ -18,4 +18,4 @@ returns-in-Ok g c =
     }
 
 pub returns-in-Err : goal.returns-in-Err
-returns-in-Err g c = record { ran = nothing_ran _ _ _ _ _ _ _ }
+returns-in-Err g c = record { ran = nothing_ran _ _ _ _ }

@@ -1,15 +1,20 @@
 use Rattle.std.specs.Prelude.{map, string_bytes}
-use Rattle.bqstored.proofs.RunLemmas.{body_runs, body_unread, other_runs, runs_none}
+use Rattle.bqstored.proofs.RunLemmas.{line_runs, line_unread, runs_none}
+use Rattle.bqstored.proofs.SpecLemmas.{has_tables}
 use Rattle.bqstored.proofs.commands.run.Goals as goal
 
-pub returns-in-Ok-clause-usage : goal.returns-in-Ok-clause-usage
-returns-in-Ok-clause-usage g c = λ none. other_runs (map string_bytes c.args.words.now) c.in-Ok.line _ c.in-Ok.ensures none c.run_line.ensures.other
+pub run_line-requires-clause-tables : goal.run_line-requires-clause-tables
+run_line-requires-clause-tables g c = has_tables (map string_bytes c.args.words.now) c.in-Ok.line c.in-Ok.ensures
 
-pub returns-in-Ok-clause-body : goal.returns-in-Ok-clause-body
-returns-in-Ok-clause-body g c = λ table is. body_runs (map string_bytes c.args.words.now) c.in-Ok.line table _ c.in-Ok.ensures is c.run_line.ensures.body
+-- words that are no line give none
+pub returns-in-Ok-clause-usage : goal.returns-in-Ok-clause-usage
+returns-in-Ok-clause-usage g c = λ none. absurd (none c.in-Ok.line c.in-Ok.ensures)
+
+pub returns-in-Ok-clause-runs : goal.returns-in-Ok-clause-runs
+returns-in-Ok-clause-runs g c = λ due is. line_runs _ (map string_bytes c.args.words.now) c.in-Ok.line due _ _ _ _ _ c.in-Ok.ensures is c.run_line.ensures.runs
 
 pub returns-in-Err-clause-usage : goal.returns-in-Err-clause-usage
-returns-in-Err-clause-usage g c = λ none. runs_none c.in-Err.fault _ _ _ c.status_without.ensures
+returns-in-Err-clause-usage g c = λ none. runs_none c.in-Err.fault _ _ c.status_without.ensures
 
-pub returns-in-Err-clause-body : goal.returns-in-Err-clause-body
-returns-in-Err-clause-body g c = λ table is. body_unread (map string_bytes c.args.words.now) c.in-Err.fault table _ _ _ _ _ c.in-Err.ensures is c.status_without.ensures
+pub returns-in-Err-clause-runs : goal.returns-in-Err-clause-runs
+returns-in-Err-clause-runs g c = λ due is. line_unread _ (map string_bytes c.args.words.now) c.in-Err.fault due _ _ _ c.in-Err.ensures is c.status_without.ensures

@@ -1,0 +1,23 @@
+-- The command that serves the connections of a door.
+use Rattle.std.specs.Prelude.{◌≡◌, ℕ, ℤ, List, Option, Result, Ok, Err}
+use Rattle.table_model.specs.Table.{Table}
+use Rattle.table_spec.specs.declared.spec.TableSpec.{TableSpec}
+use Rattle.open_tables.specs.Tables.{OpenTable, first_passes, specs_of}
+use Rattle.server.specs.declared.faults.ServeFault.{ServeFault}
+use Rattle.server.specs.declared.faults.ServeFault.TheVariants as fault
+use Rattle.server.specs.Visits.{LinkShows}
+use Rattle.server.specs.Serving.{DoorShows, ServesDoor}
+
+-- The connections of a door were served over new tables, which these engines closed.
+pub record ServesNew {L : Type 0} (shows : L → LinkShows) (specs : List TableSpec) (workers connections : ℕ)
+    (old new : DoorShows L) (before now : Option (List ℤ)) (taken0 taken : Option (List ℕ)) : Type 0 where
+  pub tables : List OpenTable
+  pub engines : List Table
+  pub new_tables : specs_of tables ≡ specs
+  pub served : ServesDoor shows tables workers connections (first_passes specs) old new before now taken0 taken engines
+
+-- the status of the program
+abbrev pub status_of_serve : {T : Type 0} → Result T ServeFault → ℕ
+status_of_serve (Ok done) = 0
+status_of_serve (Err fault.Outside) = 3
+status_of_serve (Err fault.Memory) = 4
