@@ -1,0 +1,4 @@
+pub mod FieldLemmas
+pub mod PartsBack
+pub mod SessionBack
+pub mod CallsBack

@@ -1,0 +1,10 @@
+pub mod Parts
+pub mod Options
+pub mod OptionsBytes
+pub mod Streams
+pub mod StreamsBytes
+pub mod Rows
+pub mod RowsBytes
+pub mod Sessions
+pub mod SessionsBytes
+pub mod RoundTrip
