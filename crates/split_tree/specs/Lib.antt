@@ -1,0 +1,5 @@
+pub mod Intervals
+pub mod Nodes
+pub mod Cuts
+pub mod Parts
+pub mod Laws
