@@ -1,7 +1,6 @@
 -- What serving leaves of the passes.
 use Rattle.std.proofs.Common.{◌≡◌, ◌⊎◌, inl, inr, ℕ, zero, suc, ℤ, List, [], ◌∷◌, ◌++◌, map, set, Option, Some, None, refl, sym, ap, ◌∙◌, subst, append-nil, append_assoc}
 use Rattle.std.specs.Prelude.{slice_get}
-use Rattle.table_spec.specs.declared.spec.TableSpec.{TableSpec}
 use Rattle.table_model.specs.History.{History}
 use Rattle.table_model.specs.declared.entries.Entry.{Entry}
 use Rattle.turn_table.specs.Turn.{with_entry}
@@ -10,16 +9,16 @@ use Rattle.h2_record.specs.Written.{IsFront}
 use Rattle.conn_requests.specs.declared.answers.Answer.{Answer}
 use Rattle.conn_requests.specs.Ends.{lost_answer}
 use Rattle.conn_requests.specs.Decided.{Answered}
-use Rattle.open_tables.specs.Tables.{TableView, first_passes}
+use Rattle.open_tables.specs.Tables.{TableView, OpenTable, first_passes}
 use Rattle.open_tables.specs.Plans.{Plan, Fixed, At, Gets, Loses, caller_in}
 use Rattle.conn_service.specs.Served.{Planning, plan_of, Served, PassGoesOn, EachGoesOn}
 use Rattle.conn_service.specs.Computed.{AreAlone, numbers_of, histories_of}
 
 -- ---- the passes to new tables
 
-pub first-alone : (specs : List TableSpec) → AreAlone (first_passes specs) × (numbers_of (first_passes specs) ≡ map (λ spec. 0) specs) × (histories_of (first_passes specs) ≡ map (λ spec. []) specs)
+pub first-alone : (tables : List OpenTable) → AreAlone (first_passes tables) × (numbers_of (first_passes tables) ≡ map (λ table. 0) tables) × (histories_of (first_passes tables) ≡ map (λ table. []) tables)
 first-alone [] = (tt, refl, refl)
-first-alone (spec ∷ specs) = let others = first-alone specs in ((refl, others.0), ap (λ ns. 0 ∷ ns) others.1, ap (λ hs. [] ∷ hs) others.2)
+first-alone (table ∷ tables) = let others = first-alone tables in ((refl, others.0), ap (λ ns. 0 ∷ ns) others.1, ap (λ hs. [] ∷ hs) others.2)
 
 -- ---- fronts
 

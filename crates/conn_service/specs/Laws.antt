@@ -10,8 +10,7 @@ use Rattle.h2_record.specs.Written.{EachWasDue}
 use Rattle.h2_record.specs.Quiet.{NoneFits}
 use Rattle.h2_conn.specs.Held.{Held}
 use Rattle.h2_conn.specs.Stands.{Stands}
-use Rattle.table_spec.specs.declared.spec.TableSpec.{TableSpec}
-use Rattle.open_tables.specs.Tables.{TableView, first_passes}
+use Rattle.open_tables.specs.Tables.{TableView, OpenTable, first_passes}
 use Rattle.conn_record.specs.declared.limits.TheConstants.{LEAST_ROOM}
 use Rattle.conn_requests.specs.Decided.{Answered, Played, play}
 use Rattle.conn_requests.specs.Spelled.{spelling_on}
@@ -30,7 +29,7 @@ ServedIsComputed = (plan : Planning) (passes after : List TableView) (answers : 
 
 -- The passes to new tables are alone, each with the number 0 and the empty history.
 abbrev pub FirstAreAlone : Type 0
-FirstAreAlone = (specs : List TableSpec) → AreAlone (first_passes specs) × (numbers_of (first_passes specs) ≡ map (λ spec. 0) specs) × (histories_of (first_passes specs) ≡ map (λ spec. []) specs)
+FirstAreAlone = (tables : List OpenTable) → AreAlone (first_passes tables) × (numbers_of (first_passes tables) ≡ map (λ table. 0) tables) × (histories_of (first_passes tables) ≡ map (λ table. []) tables)
 
 -- The passes go on: each keeps all but what it has seen, which begins with what it had seen.
 abbrev pub ServedGoesOn : Type 0

@@ -1,15 +1,16 @@
 -- Tables and the passes to them.
-use Rattle.std.proofs.Common.{◌≡◌, ℕ, zero, suc, ◌+◌, ◌<◌, Bool, List, [], ◌∷◌, map, length, set, get_or, Option, Some, None, refl, sym, ap, ◌∙◌, subst, arith, cond, IfSome}
+use Rattle.std.proofs.Common.{◌≡◌, ℕ, zero, suc, ◌+◌, ◌<◌, Bool, List, [], ◌∷◌, ◌++◌, map, length, set, get_or, Option, Some, None, refl, sym, ap, ◌∙◌, subst, arith, cond, IfSome}
 use Rattle.std.specs.Prelude.{slice_get, position, All, not}
 use Rattle.std.specs.List.{insert, remove, prefix_len}
 use Rattle.std.specs.Str.{bytes_eq}
 use Rattle.std.proofs.lemmas.List.{length-map}
+use mathlib.Core.List.{map-append}
 use Rattle.column_types.specs.declared.column.Column.{Column}
 use Rattle.table_spec.specs.declared.spec.TableSpec.{TableSpec}
 use Rattle.table_model.specs.declared.commands.Command.{Command}
 use Rattle.table_model.specs.Legal.{Takes}
-use Rattle.turn_table.specs.View.{Home, IsOf}
-use Rattle.open_tables.specs.Tables.{TableView, OpenTable, AreTheirs, HasItsColumns, AreTables, AreOpen, TakesAt, specs_of, place_of, opened, first_passes}
+use Rattle.turn_table.specs.View.{Home, IsOf, first_pass}
+use Rattle.open_tables.specs.Tables.{TableView, OpenTable, AreTheirs, HasItsColumns, AreTables, AreOpen, TakesAt, specs_of, place_of, first_passes}
 
 -- ---- one element put in the place of another
 
@@ -101,21 +102,25 @@ acted tables passes rest after place turn old new theirs inside has columns take
 
 -- ---- new tables
 
-pub specs_of-opened : (specs : List TableSpec) → specs_of (map opened specs) ≡ specs
-specs_of-opened [] = refl
-specs_of-opened (spec ∷ specs) = ap (λ rest. spec ∷ rest) (specs_of-opened specs)
-
-pub theirs_first : (specs : List TableSpec) → AreTheirs (map opened specs) (first_passes specs)
+pub theirs_first : (tables : List OpenTable) → AreTheirs tables (first_passes tables)
 theirs_first [] = tt
-theirs_first (spec ∷ specs) = (record { same = refl }, theirs_first specs)
+theirs_first (table ∷ tables) = (record { table = refl; same = refl }, theirs_first tables)
 
-pub columns_of_opened : (specs : List TableSpec) → All HasItsColumns (map opened specs)
-columns_of_opened [] k d inside = absurd (omega (arith, inside))
-columns_of_opened (spec ∷ specs) zero d inside = refl
-columns_of_opened (spec ∷ specs) (suc k) d inside = columns_of_opened specs k d (omega (arith, inside))
+columns_more : (tables : List OpenTable) (table : OpenTable) → All HasItsColumns tables → HasItsColumns table → All HasItsColumns (tables ++ table ∷ [])
+columns_more [] table all has zero d inside = has
+columns_more [] table all has (suc k) d inside = absurd (omega (arith, inside))
+columns_more (first ∷ tables) table all has zero d inside = all zero d (omega arith)
+columns_more (first ∷ tables) table all has (suc k) d inside = columns_more tables table (λ i other within. all (suc i) other (omega (arith, within))) has k d (omega (arith, inside))
 
-pub open_opened : (specs : List TableSpec) → AreTables specs → AreOpen (map opened specs)
-open_opened specs are = record { tables = rw (specs_of-opened specs) are; columns = columns_of_opened specs }
+-- new tables and the passes to them, and one more
+pub opened : (tables : List OpenTable) (passes : List TableView) (specs : List TableSpec) (spec : TableSpec) (turn : Home (List Column)) (pass : TableView)
+    → specs_of tables ≡ specs → passes ≡ first_passes tables → All HasItsColumns tables → turn.fixed ≡ spec.schema → pass ≡ first_pass turn
+    → (specs_of (tables ++ (spec, turn) ∷ []) ≡ specs ++ spec ∷ []) × (passes ++ pass ∷ [] ≡ first_passes (tables ++ (spec, turn) ∷ [])) × All HasItsColumns (tables ++ (spec, turn) ∷ [])
+opened tables passes specs spec turn pass are first columns has is = (
+  map-append (λ (table : OpenTable). table.0) tables ((spec, turn) ∷ []) ∙ ap (λ l. l ++ spec ∷ []) are,
+  (λ i. first i ++ is i ∷ []) ∙ sym (map-append (λ (table : OpenTable). let view : TableView = first_pass table.1 in view) tables ((spec, turn) ∷ [])),
+  columns_more tables (spec, turn) columns has,
+)
 
 -- ---- the place of a name
 

@@ -47,13 +47,9 @@ AreTheirs [] (view ∷ views) = ⊥
 AreTheirs (table ∷ tables) [] = ⊥
 AreTheirs (table ∷ tables) (view ∷ views) = IsOf table.1 view × AreTheirs tables views
 
--- a new table
-abbrev pub opened : TableSpec → OpenTable
-opened spec = (spec, record { fixed = spec.schema })
-
--- the passes to new tables: each is alone, and has seen the empty history
-abbrev pub first_passes : List TableSpec → List TableView
-first_passes specs = map (λ spec. first_pass spec.schema) specs
+-- the first passes to tables: each is alone, and has seen the empty history
+abbrev pub first_passes : List OpenTable → List TableView
+first_passes tables = map (λ table. first_pass table.1) tables
 
 -- The table at this place takes the command.
 abbrev pub TakesAt : List TableSpec → (place : ℕ) → Command → Type 0

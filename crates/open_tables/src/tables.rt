@@ -1,9 +1,9 @@
 //! Open tables.
 
-ghost use Rattle.std.specs.Prelude.{◌≡◌, ◌<◌, length, map, position, slice_get, Some, IfOk, IfSome, All};
+ghost use Rattle.std.specs.Prelude.{◌≡◌, ◌<◌, length, position, slice_get, Some, IfOk, IfSome, All};
 ghost use Rattle.std.specs.Str.{bytes_eq};
 ghost use Rattle.turn_table.specs.View.{first_pass};
-ghost use Rattle.open_tables.specs.Tables.{AreTables, AreTheirs, HasItsColumns, specs_of, place_of, opened, first_passes};
+ghost use Rattle.open_tables.specs.Tables.{AreTables, AreTheirs, HasItsColumns, specs_of, place_of, first_passes};
 
 use crate::Passes;
 use outside::Memory;
@@ -39,7 +39,7 @@ impl Model for Tables {
 // A table whose history is empty, and the first pass to it.
 fn open(alloc: Global, spec: &TableSpec) -> Result<(Turn<Engine>, Pass<Engine>), Memory>
     ensures turn { IfOk result (λ both. both.0.fixed ≡ spec.now.schema) }
-    ensures pass { IfOk result (λ both. both.1 ≡ first_pass spec.now.schema) }
+    ensures pass { IfOk result (λ both. both.1 ≡ first_pass both.0) }
 {
     let schema = spec.copy_schema(alloc)?;
     let engine = Engine::new(alloc, schema)?;
@@ -51,8 +51,9 @@ fn open_all(
     alloc: Global,
     specs: Vec<TableSpec>,
 ) -> Result<(Vec<OpenTable>, Vec<Pass<Engine>>), Memory>
-    ensures tables { IfOk result (λ both. both.0.items ≡ map opened specs.items) }
-    ensures passes { IfOk result (λ both. both.1.items ≡ first_passes specs.items) }
+    ensures specs { IfOk result (λ both. specs_of both.0.items ≡ specs.items) }
+    ensures columns { IfOk result (λ both. All HasItsColumns both.0.items) }
+    ensures passes { IfOk result (λ both. both.1.items ≡ first_passes both.0.items) }
 {
     let mut each = Vec::with_capacity(alloc, specs.len())?;
     let mut passes = Vec::with_capacity(alloc, specs.len())?;
@@ -77,7 +78,7 @@ impl Tables {
     pub fn start(alloc: Global, specs: Vec<TableSpec>) -> Result<(Tables, Passes), Memory>
         requires { AreTables specs.items }
         ensures specs { IfOk result (λ both. specs_of both.0 ≡ specs.items) }
-        ensures passes { IfOk result (λ both. both.1 ≡ first_passes specs.items) }
+        ensures passes { IfOk result (λ both. both.1 ≡ first_passes both.0) }
         ensures theirs { IfOk result (λ both. AreTheirs both.0 both.1) }
     {
         let (each, passes) = open_all(alloc, specs)?;

@@ -188,6 +188,10 @@ impl Machine for Engine {
 
     ghost fixed = { λ table. table.columns };
 
+    ghost use Rattle.std.specs.Prelude.{[]};
+
+    ghost anything = { [] };
+
     ghost takes = { Takes };
 
     ghost caller_of = { λ entry. entry.caller };

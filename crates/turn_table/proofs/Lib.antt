@@ -1,2 +1,4 @@
 pub mod LegalLemmas
+pub mod ListLemmas
+pub mod RuleLemmas
 pub mod ViewLemmas

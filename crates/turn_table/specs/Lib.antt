@@ -1,3 +1,4 @@
 pub mod Turn
 pub mod View
 pub mod Laws
+pub mod Rule

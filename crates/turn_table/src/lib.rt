@@ -4,14 +4,20 @@
 //! entries, and a fixed part that no call changes. `specs/Turn` says what one step does, and which histories are
 //! legal for a machine.
 //!
-//! A [`Turn`] is the table, and a [`Pass`] the right to act on it. A pass has seen a history, which is legal, and
-//! [`Turn::act`] answers at a history that begins with that: what stands behind it are other passes' entries. A pass
-//! that is alone meets none, so that its histories are computed. `specs/View` says what a pass shows and what an act
-//! does to it. As yet each turn has one pass, which is alone and carries the machine.
+//! A [`Turn`] is the table, which threads share, and a [`Pass`] the right to act on it, which one thread has. A pass has
+//! seen a history, which is legal, and [`Turn::act`] answers at a history that begins with that: what stands behind it
+//! are other passes' entries. A pass that is alone meets none, so that its histories are computed. `specs/View` says
+//! what a pass shows and what an act, a split and a join do to it.
+//!
+//! Turns are taken by tickets, in the order in which these are drawn. `specs/Rule` is the rule that the table keeps at
+//! each step, whoever makes it.
 #![tactic(auto)]
 
 mod laws;
 mod machine;
+mod plays;
+mod seats;
+mod steps;
 mod turn;
 
 pub use laws::{fronts_are_legal, steps_stay_legal};

@@ -31,6 +31,9 @@ pub trait Machine: Drop {
     // The fixed part.
     ghost fixed: { Self → Self.Fixed };
 
+    // Some fixed part, whichever: what a pass that never acts would show.
+    ghost anything: { Self.Fixed };
+
     // The commands that a machine with this fixed part takes.
     ghost takes: { Self.Fixed → Self.Command → Type 0 };
 

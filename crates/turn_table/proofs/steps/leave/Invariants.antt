@@ -1,0 +1,4 @@
+use Rattle.turn_table.proofs.steps.leave.Given as goal
+
+abbrev pub ghosts-publish : goal.ghosts-publish
+ghosts-publish g a = record { told = g.M.Machine.history a.machine.now }
