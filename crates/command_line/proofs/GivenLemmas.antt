@@ -1,18 +1,11 @@
 -- The words behind a command, read one after another.
-use Rattle.std.proofs.Common.{◌≡◌, inl, inr, ℕ, ◌<◌, ◌≤◌, ◌+◌, suc, length, drop, get_or, arith, drop-cons, drop_of_length-le, List, [], ◌∷◌, ◌++◌, map, Option, Some, None, refl, sym, ap, subst, ◌∙◌, IsTrue}
-use Rattle.std.specs.Prelude.{String, not, option_map, string_bytes}
-use Rattle.std.specs.Borrow.{Bor}
-use Rattle.std.specs.declared.alloc.Global.{Global}
-use Rattle.std.proofs.lemmas.List.{append-nil, append_assoc, map-append}
+use Rattle.std.proofs.Common.{◌≡◌, inl, inr, ℕ, List, [], ◌∷◌, ◌++◌, Option, Some, None, refl, sym, ap, subst, ◌∙◌, IsTrue}
+use Rattle.std.specs.Prelude.{not, option_map}
 use Rattle.command_line.specs.declared.commands.Command.{Command}
 use Rattle.command_line.specs.Commands.{is_option}
 use Rattle.command_line.specs.Given.{Given, named, bare, is_value, is_empty, IsNext, IsSpelled}
-use Rattle.command_line.specs.Steps.{Next, opens, gives, refuses, next_of, seen}
-use Rattle.command_line.specs.declared.given.Given.{Given as GivenWord}
+use Rattle.command_line.proofs.WordSteps.{Next, opens, gives, refuses, next_of}
 use Rattle.command_line.proofs.WordLemmas.{opened_by, given_by, value_by, value_never_waits, name_opens, value_gives, joined_gives, bare_gives}
-
-abbrev pub with_front : List Given → Option (List Given) → Option (List Given)
-with_front front others = option_map (λ more. front ++ more) others
 
 abbrev pub with_given : Given → Option (List Given) → Option (List Given)
 with_given one others = option_map (λ more. one ∷ more) others
@@ -46,7 +39,7 @@ unfolding Behind
 ends command None given e = subst (IsSpelled command []) (some_is [] given e) refl
 ends command (Some name) given e = absurd cc
 
-goes_on : (one : Given) (others : Option (List Given)) (given : List Given) → with_given one others ≡ Some given → (more : List Given) × (others ≡ Some more) × (given ≡ one ∷ more)
+pub goes_on : (one : Given) (others : Option (List Given)) (given : List Given) → with_given one others ≡ Some given → (more : List Given) × (others ≡ Some more) × (given ≡ one ∷ more)
 goes_on one None given e = absurd cc
 goes_on one (Some more) given e = (more, refl, sym (some_is (one ∷ more) given e))
 
@@ -109,59 +102,3 @@ spelled_given command (one ∷ others) words (rest, next, more) = first_read com
 -- words are spelled in one way
 pub one_spelling : (command : Command) (words : List (List ℕ)) (a b : List Given) → IsSpelled command words a → IsSpelled command words b → a ≡ b
 one_spelling command words a b is_a is_b = some_is a b (sym (spelled_given command a words is_a) ∙ spelled_given command b words is_b)
-
--- ---- the loop
-
-front_given : (front : List Given) (one : Given) (others : Option (List Given)) → with_front front (with_given one others) ≡ with_front (front ++ one ∷ []) others
-front_given front one None = refl
-front_given front one (Some more) = ap Some (sym (append_assoc front (one ∷ []) more))
-
-pub none_spelled : (command : Command) (front : List Given) (words : List (List ℕ)) → with_front front None ≡ given_from command None words
-    → (given : List Given) → IsSpelled command words given → ⊥
-none_spelled command front words e given is = let f : None ≡ Some given = e ∙ spelled_given command given words is in absurd cc
-
-left_word : (words : List (String Global)) (i : ℕ) (word : String Global) → i < length words → word ≡ get_or words i word
-    → map string_bytes (drop i words) ≡ string_bytes word ∷ map string_bytes (drop (i + 1) words)
-left_word words i word inside is =
-    let next : suc i ≡ i + 1 = omega arith in
-    ap (map string_bytes) (drop-cons words i word inside) ∙ ap (λ (w : String Global). string_bytes w ∷ map string_bytes (drop (suc i) words)) (sym is)
-    ∙ ap (λ (n : ℕ). string_bytes word ∷ map string_bytes (drop n words)) next
-
--- one more word, by what it makes
-pub at_word : (command : Command) (front : List Given) (waiting : Option (List ℕ)) (words : List (String Global)) (i : ℕ) (word : String Global) (text : List ℕ) (next : Next) (all : Option (List Given))
-    → i < length words → word ≡ get_or words i word → text ≡ string_bytes word → next ≡ next_of command waiting text
-    → with_front front (given_from command waiting (map string_bytes (drop i words))) ≡ all
-    → with_front front (after next (λ w. given_from command w (map string_bytes (drop (i + 1) words)))) ≡ all
-at_word command front waiting words i word text next all inside is texts made invariant =
-    ap (λ (n : Next). with_front front (after n (λ w. given_from command w (map string_bytes (drop (i + 1) words))))) (made ∙ ap (next_of command waiting) texts)
-    ∙ sym (ap (λ (ws : List (List ℕ)). with_front front (given_from command waiting ws)) (left_word words i word inside is)) ∙ invariant
-
--- one thing given stands behind those before it
-pub one_more : (items now : List GivenWord) (one : GivenWord) (rest all : Option (List Given)) → now ≡ items ++ one ∷ []
-    → with_front (map seen items) (with_given (seen one) rest) ≡ all → with_front (map seen now) rest ≡ all
-one_more items now one rest all e invariant =
-    ap (λ (gs : List Given). with_front gs rest) (ap (map seen) e ∙ map-append seen items (one ∷ []))
-    ∙ sym (front_given (map seen items) (seen one) rest) ∙ invariant
-
-at_end : (command : Command) (front : List Given) (waiting : Option (List ℕ)) (words : List (String Global)) (i : ℕ) (all : Option (List Given)) → length words ≤ i
-    → with_front front (given_from command waiting (map string_bytes (drop i words))) ≡ all → with_front front (ended waiting) ≡ all
-at_end command front waiting words i all past invariant =
-    sym (ap (λ (ws : List (String Global)). with_front front (given_from command waiting (map string_bytes ws))) (drop_of_length-le words past)) ∙ invariant
-
--- all words are read, and no option waits
-pub all_read : (command : Command) (front : List Given) (waiting : Option (Bor (List ℕ))) (words : List (String Global)) (i : ℕ) → length words ≤ i → waiting ≡ None
-    → with_front front (given_from command (option_map (λ n. n.now) waiting) (map string_bytes (drop i words))) ≡ given_from command None (map string_bytes words)
-    → IsSpelled command (map string_bytes words) front
-all_read command front waiting words i past none invariant =
-    let end = at_end command front (option_map (λ n. n.now) waiting) words i _ past invariant in
-    let whole : with_front front (Some []) ≡ given_from command None (map string_bytes words) =
-    ap (λ (w : Option (Bor (List ℕ))). with_front front (ended (option_map (λ n. n.now) w))) (sym none) ∙ end in
-    spelled command (map string_bytes words) front (sym whole ∙ ap Some (append-nil front))
-
--- all words are read, and an option waits
-pub all_waiting : (command : Command) (front : List Given) (waiting : Option (Bor (List ℕ))) (name : Bor (List ℕ)) (words : List (String Global)) (i : ℕ) → length words ≤ i → waiting ≡ Some name
-    → with_front front (given_from command (option_map (λ n. n.now) waiting) (map string_bytes (drop i words))) ≡ given_from command None (map string_bytes words)
-    → (given : List Given) → IsSpelled command (map string_bytes words) given → ⊥
-all_waiting command front waiting name words i past some invariant given is =
-    let end = at_end command front (option_map (λ n. n.now) waiting) words i _ past invariant in
-    none_spelled command front (map string_bytes words) (ap (λ (w : Option (Bor (List ℕ))). with_front front (ended (option_map (λ n. n.now) w))) (sym some) ∙ end) given is

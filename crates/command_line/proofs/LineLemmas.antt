@@ -13,36 +13,169 @@ use Rattle.command_line.specs.declared.line.CommandLine.TheVariants as line
 use Rattle.command_line.specs.declared.line.LineFault.{LineFault}
 use Rattle.command_line.specs.declared.line.LineFault.TheVariants as fault
 use Rattle.command_line.specs.Commands.{word_of, command_named}
-use Rattle.command_line.specs.Given.{Given, IsSpelled, bare, values_of}
-use Rattle.command_line.specs.Line.{command_of, HasAddress, HasNumber, HasTables, HasBareNumber, Takes, TakesAs, IsBehind, IsLine, HasTable}
+use Rattle.command_line.specs.Given.{Given, IsSpelled, bare, named as valued, values_of}
+use Rattle.command_line.specs.Line.{command_of, HasNumber, HasTables, HasBareNumber, Takes, TakesAs, IsBehind, IsLine, HasTable}
 use Rattle.command_line.specs.Numbers.{number_of}
 use Rattle.command_line.specs.Reads.{Reads}
+use Rattle.command_line.specs.Steps.{IsOneAddress, IsOneNumber, IsOneTable, IsShown, Shows, TakesValuesAs, texts_in}
+use Rattle.command_line.specs.Tables.{AreTables}
+use Rattle.clap.specs.declared.parser.matches.ArgMatches.{ArgMatches}
+use Rattle.command_line.proofs.AnswerLemmas.{passed_on}
 use Rattle.command_line.proofs.GivenLemmas.{one_spelling}
 use Rattle.command_line.proofs.TableLemmas.{one_spec, same_specs}
 
 -- ---- what a line of each command takes
 
-pub record ServeParts (given : List Given) : Type 0 where
-  pub listen : (text : List ℕ) × HasAddress given text
-  pub workers : (n : ℕ) × HasNumber (codes "--workers") 32 given n
-  pub connections : (n : ℕ) × HasNumber (codes "--connections") 65536 given n
-  pub tables : (tables : List TableSpec) × HasTables given tables
+pub record ServeParts (values : List ℕ → List (List ℕ)) : Type 0 where
+  pub listen : (text : List ℕ) × IsOneAddress (values (codes "listen")) text
+  pub workers : (n : ℕ) × IsOneNumber 32 (values (codes "workers")) n
+  pub connections : (n : ℕ) × IsOneNumber 65536 (values (codes "connections")) n
+  pub tables : (tables : List TableSpec) × AreTables (values (codes "table")) tables
 
-pub serve_parts : (given : List Given) (l : CommandLine) → TakesAs command.Serve given l → ServeParts given
-serve_parts given (line.Body table) h = let e : command.Body ≡ command.Serve = h.0 in absurd cc
-serve_parts given (line.Pipe tables) h = let e : command.Pipe ≡ command.Serve = h.0 in absurd cc
-serve_parts given (line.Serve listen workers connections tables) h =
+pub serve_parts : (values : List ℕ → List (List ℕ)) (l : CommandLine) → TakesValuesAs command.Serve values l → ServeParts values
+serve_parts values (line.Body table) h = let e : command.Body ≡ command.Serve = h.0 in absurd cc
+serve_parts values (line.Pipe tables) h = let e : command.Pipe ≡ command.Serve = h.0 in absurd cc
+serve_parts values (line.Serve listen workers connections tables) h =
     record { listen = (listen, h.1.0); workers = (workers, h.1.1); connections = (connections, h.1.2); tables = (tables, h.1.3) }
-serve_parts given (line.Drill n) h = let e : command.Drill ≡ command.Serve = h.0 in absurd cc
+serve_parts values (line.Drill n) h = let e : command.Drill ≡ command.Serve = h.0 in absurd cc
 
--- ---- from what was given to the words
+-- where a part can't be read, nothing is a line that has such a part
+pub no_workers : (m : ArgMatches) (texts : List (List ℕ)) (e : LineFault) → texts ≡ texts_in m (codes "workers") → Reads (λ (n : ℕ). n) (IsOneNumber 32 texts) (Err e)
+    → Reads (λ (l : CommandLine). l) (TakesValuesAs command.Serve (texts_in m)) (Err e)
+no_workers m texts e is refused = passed_on (λ (n : ℕ). n) (IsOneNumber 32 texts) (λ (l : CommandLine). l) (TakesValuesAs command.Serve (texts_in m)) e refused
+    (λ l takes. subst (λ (vs : List (List ℕ)). (n : ℕ) × IsOneNumber 32 vs n) (sym is) (serve_parts (texts_in m) l takes).workers)
 
-pub behind : (command : Command) (words : List (List ℕ)) (given : List Given) (r : Result CommandLine LineFault) → IsSpelled command words given
-    → Reads (λ l. l) (TakesAs command given) r → Reads (λ l. l) (IsBehind command words) r
-behind command words given (Ok l) is takes = (given, is, takes)
-behind command words given (Err fault.Memory) is none = tt
-behind command words given (Err fault.Usage) is none =
-    λ l h. none l (subst (λ (g : List Given). TakesAs command g l) (one_spelling command words h.0 given h.1 is) h.2)
+pub no_connections : (m : ArgMatches) (texts : List (List ℕ)) (e : LineFault) → texts ≡ texts_in m (codes "connections") → Reads (λ (n : ℕ). n) (IsOneNumber 65536 texts) (Err e)
+    → Reads (λ (l : CommandLine). l) (TakesValuesAs command.Serve (texts_in m)) (Err e)
+no_connections m texts e is refused = passed_on (λ (n : ℕ). n) (IsOneNumber 65536 texts) (λ (l : CommandLine). l) (TakesValuesAs command.Serve (texts_in m)) e refused
+    (λ l takes. subst (λ (vs : List (List ℕ)). (n : ℕ) × IsOneNumber 65536 vs n) (sym is) (serve_parts (texts_in m) l takes).connections)
+
+drill_part : (values : List ℕ → List (List ℕ)) (l : CommandLine) → TakesValuesAs command.Drill values l → (n : ℕ) × IsOneNumber 10000 (values (codes "n")) n
+drill_part values (line.Body table) h = let e : command.Body ≡ command.Drill = h.0 in absurd cc
+drill_part values (line.Pipe tables) h = let e : command.Pipe ≡ command.Drill = h.0 in absurd cc
+drill_part values (line.Serve listen workers connections tables) h = let e : command.Serve ≡ command.Drill = h.0 in absurd cc
+drill_part values (line.Drill n) h = (n, h.1)
+
+pub no_drill : (m : ArgMatches) (texts : List (List ℕ)) (e : LineFault) → texts ≡ texts_in m (codes "n") → Reads (λ (n : ℕ). n) (IsOneNumber 10000 texts) (Err e)
+    → Reads (λ (l : CommandLine). l) (TakesValuesAs command.Drill (texts_in m)) (Err e)
+no_drill m texts e is refused = passed_on (λ (n : ℕ). n) (IsOneNumber 10000 texts) (λ (l : CommandLine). l) (TakesValuesAs command.Drill (texts_in m)) e refused
+    (λ l takes. subst (λ (vs : List (List ℕ)). (n : ℕ) × IsOneNumber 10000 vs n) (sym is) (drill_part (texts_in m) l takes))
+
+-- ---- from the values found to the words
+
+table_of : (given : List Given) (table : Option TableSpec) → IsOneTable (values_of (codes "--table") given) table → HasTable given table
+table_of given None h = h
+table_of given (Some table) h = h
+
+of_table : (given : List Given) (table : Option TableSpec) → HasTable given table → IsOneTable (values_of (codes "--table") given) table
+of_table given None h = h
+of_table given (Some table) h = h
+
+bare_list : (texts : List (List ℕ)) (text : List ℕ) → map bare texts ≡ bare text ∷ [] → texts ≡ text ∷ []
+bare_list [] text e = absurd cc
+bare_list (x ∷ []) text e = let same : x ≡ text = cc in ap (λ (t : List ℕ). t ∷ []) same
+bare_list (x ∷ y ∷ texts) text e = absurd cc
+
+-- what the values are, the things given are
+given_takes : (c : Command) (given : List Given) (values : List ℕ → List (List ℕ)) (l : CommandLine) → Shows c given values → TakesValuesAs c values l → TakesAs c given l
+given_takes c given values (line.Body table) shows (is, takes) = go c shows is
+  where
+    go : (c : Command) → Shows c given values → command.Body ≡ c → TakesAs c given (line.Body table)
+    go command.Body s e = (e, table_of given table (subst (λ (vs : List (List ℕ)). IsOneTable vs table) (s (codes "table")) takes))
+    go command.Pipe s e = absurd cc
+    go command.Serve s e = absurd cc
+    go command.Drill s e = absurd cc
+given_takes c given values (line.Pipe tables) shows (is, takes) = go c shows is
+  where
+    go : (c : Command) → Shows c given values → command.Pipe ≡ c → TakesAs c given (line.Pipe tables)
+    go command.Body s e = absurd cc
+    go command.Pipe s e = (e, subst (λ (vs : List (List ℕ)). AreTables vs tables) (s (codes "table")) takes)
+    go command.Serve s e = absurd cc
+    go command.Drill s e = absurd cc
+given_takes c given values (line.Serve listen workers connections tables) shows (is, takes) = go c shows is
+  where
+    go : (c : Command) → Shows c given values → command.Serve ≡ c → TakesAs c given (line.Serve listen workers connections tables)
+    go command.Body s e = absurd cc
+    go command.Pipe s e = absurd cc
+    go command.Serve s e = (
+      e,
+      (
+        subst (λ (vs : List (List ℕ)). IsOneAddress vs listen) (s (codes "listen")) takes.0,
+        subst (λ (vs : List (List ℕ)). IsOneNumber 32 vs workers) (s (codes "workers")) takes.1,
+        subst (λ (vs : List (List ℕ)). IsOneNumber 65536 vs connections) (s (codes "connections")) takes.2,
+        subst (λ (vs : List (List ℕ)). AreTables vs tables) (s (codes "table")) takes.3,
+      ),
+    )
+    go command.Drill s e = absurd cc
+given_takes c given values (line.Drill n) shows (is, takes) = go c shows is
+  where
+    go : (c : Command) → Shows c given values → command.Drill ≡ c → TakesAs c given (line.Drill n)
+    go command.Body s e = absurd cc
+    go command.Pipe s e = absurd cc
+    go command.Serve s e = absurd cc
+    go command.Drill s e = (e, (takes.0, s ∙ ap (map bare) takes.1, takes.2))
+
+values_take : (c : Command) (given : List Given) (values : List ℕ → List (List ℕ)) (l : CommandLine) → Shows c given values → TakesAs c given l → TakesValuesAs c values l
+values_take c given values (line.Body table) shows (is, takes) = go c shows is
+  where
+    go : (c : Command) → Shows c given values → command.Body ≡ c → TakesValuesAs c values (line.Body table)
+    go command.Body s e = (e, subst (λ (vs : List (List ℕ)). IsOneTable vs table) (sym (s (codes "table"))) (of_table given table takes))
+    go command.Pipe s e = absurd cc
+    go command.Serve s e = absurd cc
+    go command.Drill s e = absurd cc
+values_take c given values (line.Pipe tables) shows (is, takes) = go c shows is
+  where
+    go : (c : Command) → Shows c given values → command.Pipe ≡ c → TakesValuesAs c values (line.Pipe tables)
+    go command.Body s e = absurd cc
+    go command.Pipe s e = (e, subst (λ (vs : List (List ℕ)). AreTables vs tables) (sym (s (codes "table"))) takes)
+    go command.Serve s e = absurd cc
+    go command.Drill s e = absurd cc
+values_take c given values (line.Serve listen workers connections tables) shows (is, takes) = go c shows is
+  where
+    go : (c : Command) → Shows c given values → command.Serve ≡ c → TakesValuesAs c values (line.Serve listen workers connections tables)
+    go command.Body s e = absurd cc
+    go command.Pipe s e = absurd cc
+    go command.Serve s e = (
+      e,
+      (
+        subst (λ (vs : List (List ℕ)). IsOneAddress vs listen) (sym (s (codes "listen"))) takes.0,
+        subst (λ (vs : List (List ℕ)). IsOneNumber 32 vs workers) (sym (s (codes "workers"))) takes.1,
+        subst (λ (vs : List (List ℕ)). IsOneNumber 65536 vs connections) (sym (s (codes "connections"))) takes.2,
+        subst (λ (vs : List (List ℕ)). AreTables vs tables) (sym (s (codes "table"))) takes.3,
+      ),
+    )
+    go command.Drill s e = absurd cc
+values_take c given values (line.Drill n) shows (is, takes) = go c shows is
+  where
+    go : (c : Command) → Shows c given values → command.Drill ≡ c → TakesValuesAs c values (line.Drill n)
+    go command.Body s e = absurd cc
+    go command.Pipe s e = absurd cc
+    go command.Serve s e = absurd cc
+    go command.Drill s e = (e, (takes.0, bare_list (values (codes "n")) takes.0 (sym s ∙ takes.1), takes.2))
+
+pub behind : (command : Command) (words : List (List ℕ)) (values : List ℕ → List (List ℕ)) (r : Result CommandLine LineFault) → IsShown command words values
+    → Reads (λ l. l) (TakesValuesAs command values) r → Reads (λ l. l) (IsBehind command words) r
+behind command words values (Ok l) is takes = (is.0, is.1, given_takes command is.0 values l is.2 takes)
+behind command words values (Err fault.Memory) is none = tt
+behind command words values (Err fault.Usage) is none =
+    λ l h. none l (values_take command is.0 values l is.2 (subst (λ (g : List Given). TakesAs command g l) (one_spelling command words h.0 is.0 h.1 is.1) h.2))
+
+drill_given : (words : List (List ℕ)) (given : List Given) → IsSpelled command.Drill words given → given ≡ map bare words
+drill_given words [] e = sym (ap (map bare) e)
+drill_given words (valued name value ∷ others) (rest, (option, full, spelled), more) = absurd cc
+drill_given words (bare word ∷ others) (rest, (takes, is, e), more) = ap (λ (gs : List Given). bare word ∷ gs) (drill_given rest others more) ∙ sym (ap (map bare) e)
+
+-- the values of what is given
+shown : (c : Command) (words : List (List ℕ)) (given : List Given) → IsSpelled c words given → (values : List ℕ → List (List ℕ)) × Shows c given values
+shown command.Body words given is = (λ id. values_of (45 ∷ 45 ∷ id) given, λ id. refl)
+shown command.Pipe words given is = (λ id. values_of (45 ∷ 45 ∷ id) given, λ id. refl)
+shown command.Serve words given is = (λ id. values_of (45 ∷ 45 ∷ id) given, λ id. refl)
+shown command.Drill words given is = (λ id. words, drill_given words given is)
+
+-- words of which no values are found are no line
+pub no_line : (command : Command) (words : List (List ℕ)) (e : LineFault) → Reads texts_in (IsShown command words) (Err e) → Reads (λ (l : CommandLine). l) (IsBehind command words) (Err e)
+no_line command words fault.Memory none = tt
+no_line command words fault.Usage none = λ l h. let values = shown command words h.0 h.1 in none values.0 (h.0, h.1, values.1)
 
 -- ---- the word of the command
 

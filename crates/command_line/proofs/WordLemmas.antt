@@ -11,13 +11,14 @@ use Rattle.command_line.specs.declared.commands.Command.{Command}
 use Rattle.command_line.specs.declared.commands.Command.TheVariants as command
 use Rattle.command_line.specs.Commands.{is_option, takes_bare_words}
 use Rattle.command_line.specs.Given.{Given, named, bare, is_value, is_empty, IsNext}
-use Rattle.command_line.specs.Steps.{Next, opens, gives, refuses, next_of, whole_word, with_value, is_equals, has_equals}
+use Rattle.command_line.specs.Steps.{is_equals, has_equals}
+use Rattle.command_line.proofs.WordSteps.{Next, opens, gives, refuses, next_of, whole_word, with_value}
 
-and_first : (a b : Bool) → (a && b) ≡ true → a ≡ true
+pub and_first : (a b : Bool) → (a && b) ≡ true → a ≡ true
 and_first true b e = refl
 and_first false b e = absurd cc
 
-and_second : (a b : Bool) → (a && b) ≡ true → b ≡ true
+pub and_second : (a b : Bool) → (a && b) ≡ true → b ≡ true
 and_second true b e = e
 and_second false b e = absurd cc
 
@@ -52,7 +53,7 @@ equal_there : (b : ℕ) → is_equals b ≡ true → b ≡ 61
 equal_there b e = (Decides-eqb b 61).0 e
 
 -- a word with `=` is what stands before the first, it, and what stands behind it
-cut_at_equals : (word : List ℕ) → has_equals word ≡ true → word ≡ before_first is_equals word ++ 61 ∷ after_first is_equals word
+pub cut_at_equals : (word : List ℕ) → has_equals word ≡ true → word ≡ before_first is_equals word ++ 61 ∷ after_first is_equals word
 cut_at_equals word has =
     let inside : position_or_len is_equals word < length word = ltb-true (position_or_len is_equals word) (length word) has in
     let there : get_or word (position_or_len is_equals word) 0 ≡ 61 = equal_there _ (passes_at_first is_equals word 0 inside) in
@@ -128,18 +129,18 @@ name_opens command name is = if_true (is_option command name) (opens name) (whol
 pub value_gives : (command : Command) (name value : List ℕ) → IsTrue (is_value value) → next_of command (Some name) value ≡ gives (named name value)
 value_gives command name value is = if_true (is_value value) (gives (named name value)) refuses is
 
-is_text : (xs ys : List ℕ) → bytes_eq xs ys ≡ true → xs ≡ ys
+pub is_text : (xs ys : List ℕ) → bytes_eq xs ys ≡ true → xs ≡ ys
 is_text xs ys e = (bytes_eq-Decides xs ys).0 e
 
 -- the names of options
-IsName : List ℕ → Type 0
+pub IsName : List ℕ → Type 0
 IsName name = (name ≡ codes "--table") ⊎ ((name ≡ codes "--listen") ⊎ ((name ≡ codes "--workers") ⊎ (name ≡ codes "--connections")))
 
-or_cases : (a b : Bool) → (a || b) ≡ true → (a ≡ true) ⊎ (b ≡ true)
+pub or_cases : (a b : Bool) → (a || b) ≡ true → (a ≡ true) ⊎ (b ≡ true)
 or_cases true b e = inl refl
 or_cases false b e = inr e
 
-is_name : (command : Command) (name : List ℕ) → IsTrue (is_option command name) → IsName name
+pub is_name : (command : Command) (name : List ℕ) → IsTrue (is_option command name) → IsName name
 unfolding IsName
 is_name command.Body name e = inl (is_text name (codes "--table") e)
 is_name command.Pipe name e = inl (is_text name (codes "--table") e)
@@ -156,7 +157,7 @@ is_name command.Serve name e = elim (or_cases _ _ e) [
 ]
 
 -- with `=` and a value behind it, the name is cut off again, and the whole is no option's name
-IsCut : List ℕ → Type 0
+unfoldable pub IsCut : List ℕ → Type 0
 IsCut name = (value : List ℕ) → (has_equals (name ++ 61 ∷ value) ≡ true) × (before_first is_equals (name ++ 61 ∷ value) ≡ name)
     × (after_first is_equals (name ++ 61 ∷ value) ≡ value) × ((command : Command) → is_option command (name ++ 61 ∷ value) ≡ false)
 
@@ -200,7 +201,7 @@ connections_is_cut value = (lt-ltb 13 (length (codes "--connections" ++ 61 ∷ v
     none command.Serve = refl
     none command.Drill = refl
 
-name_is_cut : (name : List ℕ) → IsName name → IsCut name
+pub name_is_cut : (name : List ℕ) → IsName name → IsCut name
 unfolding IsName
 name_is_cut name (inl e) = subst IsCut (sym e) table_is_cut
 name_is_cut name (inr (inl e)) = subst IsCut (sym e) listen_is_cut

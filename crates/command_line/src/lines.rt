@@ -1,17 +1,17 @@
-//! From what was given to a command line.
+//! From the values found to a command line.
 
 ghost use Rattle.std.specs.Prelude.{◌≡◌, ℕ, List, [], ◌∷◌, map, string_bytes};
 ghost use Rattle.command_line.specs.declared.line.CommandLine.{CommandLine};
-ghost use Rattle.command_line.specs.Given.{values_of};
-ghost use Rattle.command_line.specs.Line.{HasAddress, HasNumber, HasTables, IsLine, IsBehind, TakesAs};
+ghost use Rattle.command_line.specs.Line.{IsLine, IsBehind};
 ghost use Rattle.command_line.specs.Reads.{Reads};
-ghost use Rattle.command_line.specs.Steps.{seen};
+ghost use Rattle.command_line.specs.Steps.{IsOneAddress, IsOneNumber, TakesValuesAs, texts_in};
 
 use crate::commands::{Command, command_named};
-use crate::given::{Given, given_of, values_of};
+use crate::given::{matches_of, values_of};
 use crate::line::{CommandLine, LineFault};
 use crate::numbers::{is_address, number_of};
 use crate::tables::{TableSpecs, spec_of, tables_of};
+use clap::ArgMatches;
 use outside::Text;
 use std::alloc::Global;
 
@@ -25,29 +25,28 @@ const MAX_CONNECTIONS: u32 = 65_536;
 const MAX_DRILL: u32 = 10_000;
 
 /// The value of an option that is given exactly once.
-fn only_value<'a>(alloc: Global, given: &[Given<'a>], name: &str) -> Result<&'a str, LineFault>
-    ensures { Reads (λ text. text.now) (λ text. values_of name.now (map seen given.now) ≡ text ∷ []) result }
+fn only_value<'a>(values: &[&'a str]) -> Result<&'a str, LineFault>
+    ensures { Reads (λ text. text.now) (λ text. map (λ value. value.now) values.now ≡ text ∷ []) result }
 {
-    let values = values_of(alloc, given, name)?;
-    match values.as_slice() {
+    match values {
         [value] => Ok(*value),
         _ => Err(LineFault::Usage),
     }
 }
 
 /// The number of an option that is given exactly once.
-fn only_number(alloc: Global, given: &[Given], name: &str, most: u32) -> Result<u32, LineFault>
-    ensures { Reads (λ n. n) (HasNumber name.now most (map seen given.now)) result }
+fn only_number(values: &[&str], most: u32) -> Result<u32, LineFault>
+    ensures { Reads (λ n. n) (IsOneNumber most (map (λ value. value.now) values.now)) result }
 {
-    let text = only_value(alloc, given, name)?;
+    let text = only_value(values)?;
     number_of(text, 1, most).ok_or(LineFault::Usage)
 }
 
 /// The address to listen at.
-fn only_address(alloc: Global, given: &[Given]) -> Result<Text, LineFault>
-    ensures { Reads (λ text. text) (HasAddress (map seen given.now)) result }
+fn only_address(alloc: Global, values: &[&str]) -> Result<Text, LineFault>
+    ensures { Reads (λ text. text) (IsOneAddress (map (λ value. value.now) values.now)) result }
 {
-    let text = only_value(alloc, given, "--listen")?;
+    let text = only_value(values)?;
     if is_address(alloc, text)? {
         Ok(Text::of(alloc, text)?)
     } else {
@@ -55,19 +54,10 @@ fn only_address(alloc: Global, given: &[Given]) -> Result<Text, LineFault>
     }
 }
 
-/// The tables of the line.
-fn given_tables(alloc: Global, given: &[Given]) -> Result<TableSpecs, LineFault>
-    ensures { Reads (λ tables. tables) (HasTables (map seen given.now)) result }
+fn body_line(alloc: Global, matches: &ArgMatches) -> Result<CommandLine, LineFault>
+    ensures { Reads (λ line. line) (TakesValuesAs Command.Body (texts_in matches.now)) result }
 {
-    let texts = values_of(alloc, given, "--table")?;
-    tables_of(alloc, texts.as_slice())
-}
-
-fn body_line(alloc: Global, given: &[Given]) -> Result<CommandLine, LineFault>
-    ensures { Reads (λ line. line) (TakesAs Command.Body (map seen given.now)) result }
-{
-    let texts = values_of(alloc, given, "--table")?;
-    match texts.as_slice() {
+    match values_of(matches, "table") {
         [] => Ok(CommandLine::Body { table: None }),
         [text] => Ok(CommandLine::Body {
             table: Some(spec_of(alloc, text)?),
@@ -76,21 +66,21 @@ fn body_line(alloc: Global, given: &[Given]) -> Result<CommandLine, LineFault>
     }
 }
 
-fn pipe_line(alloc: Global, given: &[Given]) -> Result<CommandLine, LineFault>
-    ensures { Reads (λ line. line) (TakesAs Command.Pipe (map seen given.now)) result }
+fn pipe_line(alloc: Global, matches: &ArgMatches) -> Result<CommandLine, LineFault>
+    ensures { Reads (λ line. line) (TakesValuesAs Command.Pipe (texts_in matches.now)) result }
 {
     Ok(CommandLine::Pipe {
-        tables: given_tables(alloc, given)?,
+        tables: tables_of(alloc, values_of(matches, "table"))?,
     })
 }
 
-fn serve_line(alloc: Global, given: &[Given]) -> Result<CommandLine, LineFault>
-    ensures { Reads (λ line. line) (TakesAs Command.Serve (map seen given.now)) result }
+fn serve_line(alloc: Global, matches: &ArgMatches) -> Result<CommandLine, LineFault>
+    ensures { Reads (λ line. line) (TakesValuesAs Command.Serve (texts_in matches.now)) result }
 {
-    let listen = only_address(alloc, given)?;
-    let workers = only_number(alloc, given, "--workers", MAX_WORKERS)?;
-    let connections = only_number(alloc, given, "--connections", MAX_CONNECTIONS)?;
-    let tables = given_tables(alloc, given)?;
+    let listen = only_address(alloc, values_of(matches, "listen"))?;
+    let workers = only_number(values_of(matches, "workers"), MAX_WORKERS)?;
+    let connections = only_number(values_of(matches, "connections"), MAX_CONNECTIONS)?;
+    let tables = tables_of(alloc, values_of(matches, "table"))?;
     Ok(CommandLine::Serve {
         listen,
         workers,
@@ -99,27 +89,23 @@ fn serve_line(alloc: Global, given: &[Given]) -> Result<CommandLine, LineFault>
     })
 }
 
-fn drill_line(given: &[Given]) -> Result<CommandLine, LineFault>
-    ensures { Reads (λ line. line) (TakesAs Command.Drill (map seen given.now)) result }
+fn drill_line(matches: &ArgMatches) -> Result<CommandLine, LineFault>
+    ensures { Reads (λ line. line) (TakesValuesAs Command.Drill (texts_in matches.now)) result }
 {
-    let [Given::Bare { word }] = given else {
-        return Err(LineFault::Usage);
-    };
-    match number_of(word, 1, MAX_DRILL) {
-        Some(n) => Ok(CommandLine::Drill { n }),
-        None => Err(LineFault::Usage),
-    }
+    Ok(CommandLine::Drill {
+        n: only_number(values_of(matches, "n"), MAX_DRILL)?,
+    })
 }
 
-/// The line of a command with what stands behind it.
-fn line_of(alloc: Global, command: Command, given: &[Given]) -> Result<CommandLine, LineFault>
-    ensures { Reads (λ line. line) (TakesAs command (map seen given.now)) result }
+/// The line of a command with what was found behind it.
+fn line_of(alloc: Global, command: Command, matches: &ArgMatches) -> Result<CommandLine, LineFault>
+    ensures { Reads (λ line. line) (TakesValuesAs command (texts_in matches.now)) result }
 {
     match command {
-        Command::Body => body_line(alloc, given),
-        Command::Pipe => pipe_line(alloc, given),
-        Command::Serve => serve_line(alloc, given),
-        Command::Drill => drill_line(given),
+        Command::Body => body_line(alloc, matches),
+        Command::Pipe => pipe_line(alloc, matches),
+        Command::Serve => serve_line(alloc, matches),
+        Command::Drill => drill_line(matches),
     }
 }
 
@@ -127,8 +113,8 @@ fn line_of(alloc: Global, command: Command, given: &[Given]) -> Result<CommandLi
 fn line_behind(alloc: Global, command: Command, words: &[String]) -> Result<CommandLine, LineFault>
     ensures { Reads (λ line. line) (IsBehind command (map string_bytes words.now)) result }
 {
-    let given = given_of(alloc, command, words)?;
-    line_of(alloc, command, given.as_slice())
+    let matches = matches_of(alloc, command, words)?;
+    line_of(alloc, command, &matches)
 }
 
 /// Reads the words behind the program's name.

@@ -1,13 +1,14 @@
-use Rattle.std.proofs.Common.{List, map, ap, subst}
+use Rattle.std.proofs.Common.{map}
 use Rattle.std.specs.Prelude.{string_bytes}
-use Rattle.command_line.specs.Given.{Given}
-use Rattle.command_line.specs.Line.{TakesAs}
-use Rattle.command_line.specs.Reads.{Reads}
-use Rattle.command_line.specs.Steps.{seen}
-use Rattle.command_line.proofs.LineLemmas.{behind}
+use Rattle.std.proofs.lemmas.Result.{err_from_is_err_and}
+use Rattle.command_line.specs.Steps.{texts_in}
+use Rattle.command_line.proofs.LineLemmas.{behind, no_line}
 use Rattle.command_line.proofs.lines.line_behind.Goals as goal
 
+pub returns-in_err-matches : goal.returns-in_err-matches
+returns-in_err-matches c =
+    let p = err_from_is_err_and c.from_residual.result c.from_residual.ensures.1 in
+    rw (p.1, p.2) (no_line c.args.command (map string_bytes c.args.words.now) c.in_err-matches.field-0.0 c.in_err-matches.ensures)
+
 pub returns : goal.returns
-returns c =
-    behind c.args.command (map string_bytes c.args.words.now) (map seen c.in_ok-given.given.items) c.line_of.result c.in_ok-given.ensures
-    (subst (λ (given : List Given). Reads (λ l. l) (TakesAs c.args.command given) c.line_of.result) (ap (map seen) c.as_slice.ensures.value) c.line_of.ensures)
+returns c = behind c.args.command (map string_bytes c.args.words.now) (texts_in c.in_ok-matches.matches) c.line_of.result c.in_ok-matches.ensures c.line_of.ensures
