@@ -1,6 +1,6 @@
 //! A call that goes on.
 
-ghost use Rattle.std.specs.Prelude.{◌≡◌, ◌==◌, ◌<◌, ◌^◌, ◌≤ℤ◌, true, length, Some, Ok, IfOk, IfSome, OnOk, OnErr, if◌then◌else◌};
+ghost use Rattle.std.specs.Prelude.{◌≡◌, ◌==◌, ◌<◌, ◌^◌, ◌≤ℤ◌, ◌⊎◌, true, length, Some, None, Ok, IfOk, IfSome, OnOk, OnErr, if◌then◌else◌};
 ghost use Rattle.resource_names.specs.Write.{write_name_of};
 ghost use Rattle.table_model.specs.declared.limits.TheConstants.{LATEST_READING};
 ghost use Rattle.open_tables.specs.Tables.{AreTheirs, specs_of};
@@ -63,14 +63,14 @@ impl AppendCall {
         }
     }
 
-    /// Remembers the write stream of this name, unless the name is empty.
-    fn name_stream(&mut self, alloc: Global, name: &Text) -> Result<(), Memory>
-        ensures { OnOk result (self.new ≡ record self.old { stream = if length name.now == 0 then self.old.stream else name.now }) }
+    /// A copy of the name of a write stream, unless the name is empty.
+    fn named_stream(alloc: Global, name: &Text) -> Result<Option<Text>, Memory>
+        ensures { IfOk result (λ named. named ≡ (if length name.now == 0 then None else Some name.now)) }
     {
-        if !name.text().is_empty() {
-            self.stream = Text::of(alloc, name.text())?;
+        if name.text().is_empty() {
+            return Ok(None);
         }
-        Ok(())
+        Ok(Some(Text::of(alloc, name.text())?))
     }
 
     /// Whether the writer schema that was named last has this descriptor.
@@ -86,7 +86,8 @@ impl AppendCall {
     /// Remembers the writer schema with this descriptor. What was bound of another is dropped.
     fn name_schema(&mut self, alloc: Global, descriptor: &[u8]) -> Result<(), Memory>
         requires { length descriptor.now < 2 ^ 32 }
-        ensures { OnOk result (self.new ≡ record self.old { schema = Some descriptor.now }) }
+        ensures named { OnOk result (self.new ≡ record self.old { schema = Some descriptor.now }) }
+        ensures kept { OnErr result (self.new ≡ self.old) }
     {
         if !self.has_schema(descriptor) {
             self.schema = Some(Blob::of(alloc, descriptor)?);
@@ -95,16 +96,20 @@ impl AppendCall {
         Ok(())
     }
 
-    /// Remembers what a message names.
+    /// Remembers what a message names. At want of memory nothing is remembered.
     fn remember(&mut self, alloc: Global, request: &AppendRowsRequest) -> Result<(), Memory>
         requires { IfSome (schema_named request.now) (λ descriptor. length descriptor < 2 ^ 32) }
-        ensures { OnOk result (self.new ≡ naming self.old request.now) }
+        ensures named { OnOk result (self.new ≡ naming self.old request.now) }
+        ensures kept { OnErr result (self.new ≡ self.old) }
     {
-        self.name_stream(alloc, &request.write_stream)?;
-        match schema_named(request) {
-            Some(descriptor) => self.name_schema(alloc, descriptor),
-            None => Ok(()),
+        let stream = AppendCall::named_stream(alloc, &request.write_stream)?;
+        if let Some(descriptor) = schema_named(request) {
+            self.name_schema(alloc, descriptor)?;
         }
+        if let Some(stream) = stream {
+            self.stream = stream;
+        }
+        Ok(())
     }
 
     /// The writer schema, bound to the columns of this table. What was kept is moved out.
@@ -231,6 +236,7 @@ impl AppendCall {
         requires in_time { now ≤ℤ LATEST_READING }
         requires small { IsWithin 4294967295 request.now }
         ensures named { IfOk result.1 (λ answer. self.new ≡ naming self.old request.now) }
+        ensures lost { OnErr result.1 ((self.new ≡ self.old) ⊎ (self.new ≡ naming self.old request.now)) }
         ensures theirs { AreTheirs tables.now result.0 }
         ensures gets { IfOk result.1 (λ answer. Gets passes (append_by (specs_of tables.now) (naming self.old request.now) (Ok request.now)) now answer result.0) }
         ensures loses { OnErr result.1 (Loses passes (append_by (specs_of tables.now) (naming self.old request.now) (Ok request.now)) now result.0) }
@@ -249,7 +255,8 @@ impl AppendCall {
     /// stream was named or its name is none, where no table has that name, where the write stream isn't there, where no
     /// writer schema was named or it can't be bound to the columns, where a row can't be read, and as the table answers.
     ///
-    /// At want of memory the answer is lost: nothing was entered, or all but the answer was done.
+    /// At want of memory the answer is lost: nothing was entered, or all but the answer was done. What the message names is
+    /// remembered then, or nothing of it.
     #[tactic(auto, using(call_names::proofs::LossLemmas::untouched), unfolding(call_plans::specs::Appending::append_plan, conn_requests::specs::Names::named_with))]
     pub fn message<R: Wait>(
         &mut self,
@@ -264,6 +271,7 @@ impl AppendCall {
         requires theirs { AreTheirs tables.now passes }
         requires in_time { now ≤ℤ LATEST_READING }
         ensures named { IfOk result.1 (λ answer. self.new ≡ named_with self.old message.now) }
+        ensures lost { OnErr result.1 ((self.new ≡ self.old) ⊎ (self.new ≡ named_with self.old message.now)) }
         ensures theirs { AreTheirs tables.now result.0 }
         ensures gets { IfOk result.1 (λ answer. Gets passes (append_plan (specs_of tables.now) (named_with self.old message.now) message.now) now answer result.0) }
         ensures loses { OnErr result.1 (Loses passes (append_plan (specs_of tables.now) (named_with self.old message.now) message.now) now result.0) }
