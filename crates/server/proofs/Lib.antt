@@ -1,2 +1,6 @@
 pub mod ReportLemmas
 pub mod ServeLemmas
+pub mod SplitLemmas
+pub mod WorkLemmas
+pub mod AskLemmas
+pub mod CrewLemmas

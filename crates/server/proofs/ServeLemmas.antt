@@ -21,7 +21,7 @@ use Rattle.server.proofs.ReportLemmas.{closed_alone}
 
 -- ---- lists
 
-sees_none : (passes : List TableView) → EachSeesOthers passes passes
+pub sees_none : (passes : List TableView) → EachSeesOthers passes passes
 sees_none [] = tt
 sees_none (pass ∷ passes) = ((pass.seen, record { more = []; is = sym (append-nil pass.seen); others = refl; none_if_alone = λ alone. refl }, refl), sees_none passes)
 
@@ -50,7 +50,7 @@ module _ {L : Type 0} where
 
 module _ {L : Type 0} (shows : L → LinkShows) (asks : Planning) where
   -- one link more, at the end
-  turn_more : (visits : List (Visit L)) (visit : Visit L) (passes between after : List TableView) (since middle until : Option (List ℤ))
+  pub turn_more : (visits : List (Visit L)) (visit : Visit L) (passes between after : List TableView) (since middle until : Option (List ℤ))
       → ServesInTurn shows asks visits passes between since middle → IsServed shows asks visit between after middle until
       → ServesInTurn shows asks (visits ++ visit ∷ []) passes after since until
   turn_more [] visit passes between after since middle until (sees, same) served =
@@ -84,7 +84,7 @@ module _ {L : Type 0} (shows : L → LinkShows) (asks : Planning) where
         }
 
 -- doors that show the same
-same_door : {L : Type 0} (a b : DoorShows L) → a.left ≡ b.left → a.handed ≡ b.handed → a.out ≡ b.out → a ≡ b
+pub same_door : {L : Type 0} (a b : DoorShows L) → a.left ≡ b.left → a.handed ≡ b.handed → a.out ≡ b.out → a ≡ b
 same_door a b l h o = ap (λ x. record { left = x; handed = a.handed; out = a.out }) l
     ∙ ap (λ x. record { left = b.left; handed = x; out = a.out }) h
     ∙ ap (λ x. record { left = b.left; handed = b.handed; out = x }) o
@@ -141,7 +141,7 @@ module _ {L : Type 0} (shows : L → LinkShows) (tables : List OpenTable) (worke
         out = links.links.out;
         each = All-cons (IsShare shows tables passes gave before now (entries_of engines)) share [] is (All-nil (IsShare shows tables passes gave before now (entries_of engines)));
         differ = (All-nil _, tt);
-        alone = λ one. All-cons (λ s. entries_of engines ≡ histories_of s.after) share [] exact (All-nil (λ s. entries_of engines ≡ histories_of s.after));
+        alone = λ few. exact;
         last = after;
         reports = reports;
       }

@@ -3,6 +3,7 @@ use Rattle.std.specs.Prelude.{◌≡◌, ℕ, List, [], ◌∷◌, ◌++◌, len
 use Rattle.std.specs.List.{zip}
 use Rattle.std.specs.Io.KnownBytes.{Appends}
 use Rattle.outside.specs.Faults.{Rose}
+use Rattle.call_body.specs.Reading.{AppendsWhereTold}
 use Rattle.table_model.specs.History.{History}
 use Rattle.table_model.specs.Legal.{Takes}
 use Rattle.table_model.specs.Table.{Table}
@@ -47,3 +48,18 @@ abbrev pub ReportCause : {T : Type 0} → ℕ → ℕ → Result T ServeFault �
 ReportCause before now (Ok engines) = now ≡ before
 ReportCause before now (Err fault.Outside) = Rose before now
 ReportCause before now (Err fault.Memory) = now ≡ before
+
+-- The tables were closed, and of their lines the first bytes were written, where the sink tells them.
+pub record ReportsPartly (tables : List OpenTable) (passes : List TableView) (before now : Option (List ℕ)) : Type 0 where
+  pub engines : List Table
+  pub closed : AreClosed tables passes engines
+  pub written : List ℕ
+  pub unwritten : List ℕ
+  pub of : report_of (specs_of tables) engines ≡ written ++ unwritten
+  pub appends : AppendsWhereTold before now written
+
+-- what was written where the report failed: at want of memory nothing
+abbrev pub KeepsWritten : {T : Type 0} → List OpenTable → List TableView → (before now : Option (List ℕ)) → Result T ServeFault → Type 0
+KeepsWritten tables passes before now (Ok engines) = Unit {0}
+KeepsWritten tables passes before now (Err fault.Outside) = ReportsPartly tables passes before now
+KeepsWritten tables passes before now (Err fault.Memory) = now ≡ before

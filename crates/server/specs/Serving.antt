@@ -11,7 +11,7 @@ use Rattle.call_plans.specs.Plans.{plan}
 use Rattle.conn_service.specs.Computed.{histories_of}
 use Rattle.server.specs.declared.faults.ServeFault.{ServeFault}
 use Rattle.server.specs.declared.faults.ServeFault.TheVariants as fault
-use Rattle.server.specs.Report.{Reports}
+use Rattle.server.specs.Report.{Reports, ReportsPartly}
 use Rattle.server.specs.Visits.{LinkShows, Visit, ServesInTurn}
 
 -- What a door shows: the links left and those handed back, where it tells them, and how many are out.
@@ -73,6 +73,11 @@ pub record IsShare {L : Type 0} (shows : L → LinkShows) (tables : List OpenTab
   pub served : ServesInTurn shows (plan (specs_of tables)) share.visits share.passes share.after share.since share.until
   pub within : AreFronts (histories_of share.after) histories
 
+-- what the passes of the first worker had seen at last; without one, what the given passes had
+abbrev pub last_seen : {L : Type 0} → List TableView → List (Share L) → List TableView
+last_seen passes [] = passes
+last_seen passes (share ∷ shares) = share.after
+
 abbrev pub entries_of : List Table → List History
 entries_of engines = map (λ engine. engine.entries) engines
 
@@ -93,8 +98,8 @@ pub record ServesDoor {L : Type 0} (shows : L → LinkShows) (tables : List Open
   -- each worker served its own, by numbers of its own
   pub each : All (IsShare shows tables passes gave before now (entries_of engines)) shares
   pub differ : EachDiffers shares
-  -- where one worker served all, the histories have no entry but those
-  pub alone : length shares ≡ 1 → All (λ share. entries_of engines ≡ histories_of share.after) shares
+  -- where one worker served all, or none had to, the histories have no entry but those that its passes had seen
+  pub alone : length shares ≤ 1 → entries_of engines ≡ histories_of (last_seen passes shares)
   -- one report is written over the engines
   pub last : List TableView
   pub reports : Reports tables last taken0 taken engines
@@ -104,3 +109,10 @@ abbrev pub ServeCause : {T : Type 0} → (door0 door out0 out : ℕ) → Result 
 ServeCause door0 door out0 out (Ok engines) = (door ≡ door0) × (out ≡ out0)
 ServeCause door0 door out0 out (Err fault.Outside) = Rose door0 door ⊎ Rose out0 out
 ServeCause door0 door out0 out (Err fault.Memory) = (door ≡ door0) × (out ≡ out0)
+
+-- What was written where nothing is reported: nothing where the door failed or memory was wanting, else the first bytes of
+-- a report.
+abbrev pub WritesPartly : {T : Type 0} → List OpenTable → (door0 door : ℕ) → (taken0 taken : Option (List ℕ)) → Result T ServeFault → Type 0
+WritesPartly tables door0 door taken0 taken (Ok engines) = Unit {0}
+WritesPartly tables door0 door taken0 taken (Err fault.Outside) = (taken ≡ taken0) ⊎ ((door ≡ door0) × ((last : List TableView) × ReportsPartly tables last taken0 taken))
+WritesPartly tables door0 door taken0 taken (Err fault.Memory) = taken ≡ taken0

@@ -2,7 +2,7 @@
 
 ghost use Rattle.std.specs.Prelude.{◌≡◌, ◌++◌, IfOk, string_bytes, All, []};
 ghost use Rattle.open_tables.specs.Tables.{AreTheirs, HasItsColumns, specs_of};
-ghost use Rattle.server.specs.Report.{AreClosed, Reports, ReportCause, report_of};
+ghost use Rattle.server.specs.Report.{AreClosed, KeepsWritten, Reports, ReportCause, report_of};
 
 use crate::ServeFault;
 use crate::lines::add_line;
@@ -41,7 +41,8 @@ fn close_all<R: Wait>(
 /// and gives the engines in that order. E is the length of the history of the engine, and V that of its visible rows.
 ///
 /// That history is legal and begins with all that the pass of the table had seen; it is exactly that where the pass is
-/// alone. `Outside` comes only where the count of faults of `out` rose.
+/// alone. `Outside` comes only where the count of faults of `out` rose; the first bytes of the lines may be written then.
+/// At want of memory nothing is.
 pub fn report<R: Wait, O: Sink>(
     rt: &R,
     alloc: Global,
@@ -52,6 +53,7 @@ pub fn report<R: Wait, O: Sink>(
     requires theirs { AreTheirs tables passes }
     ensures reports { IfOk result (λ engines. Reports tables passes (O.taken out.old) (O.taken out.new) engines.items) }
     ensures cause { ReportCause (O.faults out.old) (O.faults out.new) result }
+    ensures kept { KeepsWritten tables passes (O.taken out.old) (O.taken out.new) result }
 {
     let mut text = String::new(alloc);
     let engines = close_all(rt, alloc, tables.parts(), passes.each, &mut text)?;

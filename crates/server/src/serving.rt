@@ -6,7 +6,7 @@ ghost use Rattle.open_tables.specs.Tables.{AreTheirs, specs_of};
 ghost use Rattle.call_plans.specs.Plans.{plan};
 ghost use Rattle.conn_service.specs.Computed.{AreAlone};
 ghost use Rattle.server.specs.Visits.{IsServed};
-ghost use Rattle.server.specs.Serving.{ServesDoor, ServeCause};
+ghost use Rattle.server.specs.Serving.{ServesDoor, ServeCause, WritesPartly};
 ghost use Rattle.server.specs.Links.{ServesLinks, LinksCause};
 
 use crate::ServeFault;
@@ -91,8 +91,8 @@ fn serve_links<R: Wait, L: Link, D: Door<L>, C: Clock, G: Gate>(
 ///
 /// The connections are numbered from 0, in the order in which the door gives them, and served one after another on this
 /// thread, whatever the number of workers (1 to 32). Each link is closed once it was served, and handed back. How a
-/// connection ended changes nothing for the others. Where the door can't listen or fails, nothing is reported. `Outside`
-/// comes only where a count of faults rose, of the door or of `out`.
+/// connection ended changes nothing for the others. Where the door can't listen or fails, or memory is wanting, nothing is
+/// written. `Outside` comes only where a count of faults rose, of the door or of `out`.
 pub fn serve<R: Wait, L: Link, D: Door<L>, C: Clock, G: Gate, O: Sink>(
     rt: &R,
     alloc: Global,
@@ -116,6 +116,7 @@ pub fn serve<R: Wait, L: Link, D: Door<L>, C: Clock, G: Gate, O: Sink>(
         (record { left = D.left door.new; handed = D.handed door.new; out = D.out door.new })
         (C.readings clock.old) (C.readings clock.new) (O.taken out.old) (O.taken out.new) engines.items) }
     ensures cause { ServeCause (D.faults door.old) (D.faults door.new) (O.faults out.old) (O.faults out.new) result }
+    ensures partly { WritesPartly tables (D.faults door.old) (D.faults door.new) (O.taken out.old) (O.taken out.new) result }
 {
     if door.listen(listen).is_err() {
         return Err(ServeFault::Outside);
