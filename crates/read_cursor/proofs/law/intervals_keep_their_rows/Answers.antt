@@ -1,0 +1,9 @@
+-- The laws of intervals, as their lemmas say.
+use Rattle.read_cursor.proofs.IntervalLemmas.{shown_parts, shown_later}
+use Rattle.read_cursor.proofs.law.intervals_keep_their_rows.Goals as goal
+
+pub returns-clause-parts : goal.returns-clause-parts
+returns-clause-parts c = λ pred fields lo cut hi rows low high. shown_parts pred fields lo cut hi rows low high
+
+pub returns-clause-later : goal.returns-clause-later
+returns-clause-later c = λ pred fields lo hi rows more low high. shown_later pred fields lo hi rows more low high
