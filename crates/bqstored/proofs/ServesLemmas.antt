@@ -15,11 +15,11 @@ use Rattle.bqstored.specs.Outside.{Objects, Shows}
 use Rattle.bqstored.specs.Serve.{ServesNew, status_of_serve}
 use Rattle.bqstored.specs.Runs.{RunsServe, Runs}
 
-pub alone_first : (specs : List TableSpec) (passes : List TableView) → passes ≡ first_passes specs → AreAlone passes
+pub alone_first : (tables : List OpenTable) (passes : List TableView) → passes ≡ first_passes tables → AreAlone passes
 alone_first specs passes are = subst AreAlone (sym are) (first-alone specs).0
 
 module _ {L : Type 0} (shows : L → LinkShows) (specs : List TableSpec) (workers connections : ℕ) (old new : DoorShows L) (before now : Option (List ℤ)) (taken0 taken : Option (List ℕ)) where
-  pub serves_new : (tables : List OpenTable) (passes : List TableView) (engines : List Table) → specs_of tables ≡ specs → passes ≡ first_passes specs
+  pub serves_new : (tables : List OpenTable) (passes : List TableView) (engines : List Table) → specs_of tables ≡ specs → passes ≡ first_passes tables
       → ServesDoor shows tables workers connections passes old new before now taken0 taken engines
       → ServesNew shows specs workers connections old new before now taken0 taken
   serves_new tables passes engines new_tables are served = record {

@@ -14,7 +14,7 @@ pub record ServesNew {L : Type 0} (shows : L → LinkShows) (specs : List TableS
   pub tables : List OpenTable
   pub engines : List Table
   pub new_tables : specs_of tables ≡ specs
-  pub served : ServesDoor shows tables workers connections (first_passes specs) old new before now taken0 taken engines
+  pub served : ServesDoor shows tables workers connections (first_passes tables) old new before now taken0 taken engines
 
 -- the status of the program
 abbrev pub status_of_serve : {T : Type 0} → Result T ServeFault → ℕ
