@@ -83,12 +83,13 @@ roots-push at k i old new node from upto before put is first last =
     zero_and i = omega arith
 
 -- all roots
-pub IsSplitTree-made : (at k i : ℕ) (list : List Node) → 0 < k → k ≤ MOST_ROOTS → list ≡ roots_upto at k i → i ≤ k → k ≤ i
+pub roots-made : (at k i : ℕ) (list : List Node) → list ≡ roots_upto at k i → i ≤ k → k ≤ i → list ≡ (root_nodes at k).list
+roots-made at k i list made below over = let all : i ≡ k = omega arith in made ∙ ap (roots_upto at k) all
+
+pub IsSplitTree-made : (at k : ℕ) (list : List Node) → 0 < k → k ≤ MOST_ROOTS → list ≡ (root_nodes at k).list
     → IsSplitTree (record { at = at; roots = k; list = list })
-IsSplitTree-made at k i list some few made below over =
-    let all : i ≡ k = omega arith in
-    subst (λ xs. IsSplitTree (record { at = at; roots = k; list = xs })) (sym (made ∙ ap (roots_upto at k) all))
-    (IsSplitTree-roots at k some (most k few))
+IsSplitTree-made at k list some few made =
+    subst (λ xs. IsSplitTree (record { at = at; roots = k; list = xs })) (sym made) (IsSplitTree-roots at k some (most k few))
   where
     most : (k : ℕ) → k ≤ MOST_ROOTS → k ≤ MOST_NODES
     most k few = omega (arith, few)

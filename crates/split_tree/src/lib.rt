@@ -27,4 +27,4 @@ pub use laws::{
     trees_are_halved,
 };
 pub use node::{Cut, Interval, MOST_NODES, MOST_ROOTS, Node, ROOTS_UNASKED};
-pub use tree::Tree;
+pub use tree::{Tree, root_nodes, roots_of};

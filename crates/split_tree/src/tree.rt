@@ -4,7 +4,7 @@ ghost use Rattle.std.specs.Prelude.{◌≡◌, ◌≤◌, ◌<◌, ◌+◌, ◌*
 ghost use Rattle.std.specs.List.{slice_get, range_with_len};
 ghost use Rattle.split_tree.specs.declared.node.TheConstants.{MOST_ROOTS};
 ghost use Rattle.split_tree.specs.Intervals.{roots_of as roots_for, root as root_at};
-ghost use Rattle.split_tree.specs.Nodes.{interval_of, children_of, node_of, root_nodes, unsplit as unsplit_node, Splits};
+ghost use Rattle.split_tree.specs.Nodes.{interval_of, children_of, node_of, root_nodes as root_nodes_of, unsplit as unsplit_node, Splits};
 ghost use Rattle.split_tree.specs.Cuts.{AreLeaves};
 
 use crate::node::{Cut, Interval, MOST_ROOTS, Node, ROOTS_UNASKED};
@@ -30,8 +30,9 @@ impl Model for Tree {
     ghost invariant = { λ t. IsSplitTree (record { at = t.at; roots = t.roots; list = t.nodes.items }) };
 }
 
-// How many roots a session over `at` rows has that asks for `count`.
-fn roots_of(at: u64, count: u32) -> u32
+/// How many roots a session over `at` rows has that asks for `count`: [`ROOTS_UNASKED`] where that is 0, at most
+/// [`MOST_ROOTS`] and no more than rows, but at least one.
+pub fn roots_of(at: u64, count: u32) -> u32
     ensures exact { result ≡ roots_for at count }
     ensures some { 0 < result }
     ensures few { result ≤ MOST_ROOTS }
@@ -60,6 +61,19 @@ fn unsplit(from: u64, upto: u64) -> Node
     }
 }
 
+/// The nodes of a new session over the first `at` visible rows: roots that cut them into so many parts, whose lengths
+/// differ by at most one.
+pub fn root_nodes(alloc: Global, at: u64, roots: u32) -> Result<Vec<Node>, Memory>
+    ensures { IfOk result (λ nodes. nodes.items ≡ (root_nodes_of at roots).list) }
+{
+    let mut nodes = Vec::new(alloc);
+    nodes.reserve(roots as usize)?;
+    for i in 0..roots {
+        nodes.push(unsplit(bound(at, roots, i), bound(at, roots, i + 1)))?;
+    }
+    Ok(nodes)
+}
+
 // The numbers below `n`, in order.
 fn numbers(alloc: Global, n: u32) -> Result<Vec<u32>, Memory>
     ensures { IfOk result (λ all. all.items ≡ range_with_len 0 n) }
@@ -78,14 +92,10 @@ impl Tree {
     /// [`MOST_ROOTS`] and no more than rows, but at least one.
     pub fn new(alloc: Global, at: u64, count: i32) -> Result<Tree, Memory>
         requires { pos 0 ≤ℤ count }
-        ensures { IfOk result (λ tree. tree ≡ root_nodes at (roots_for at (nat_abs count))) }
+        ensures { IfOk result (λ tree. tree ≡ root_nodes_of at (roots_for at (nat_abs count))) }
     {
         let roots = roots_of(at, count as u32);
-        let mut nodes = Vec::new(alloc);
-        nodes.reserve(roots as usize)?;
-        for i in 0..roots {
-            nodes.push(unsplit(bound(at, roots, i), bound(at, roots, i + 1)))?;
-        }
+        let nodes = root_nodes(alloc, at, roots)?;
         Ok(Tree { at, roots, nodes })
     }
 

@@ -14,9 +14,10 @@ use Rattle.table_model.specs.declared.facts.Facts.{Facts}
 use Rattle.table_model.specs.declared.streams.StreamRef.{StreamRef}
 use Rattle.table_model.specs.declared.streams.StreamState.{StreamState}
 use Rattle.table_model.specs.Answer.{answer_of}
-use Rattle.table_model.specs.Table.{Table, Stepped, answer_at, history_after}
+use Rattle.table_model.specs.Table.{Table, answer_at, history_after}
 use Rattle.table_model.specs.History.{History}
 use Rattle.table_model.specs.Facts.{facts_of, has_stream, state_in, state_of}
+use Rattle.table_model.specs.Look.{look_of}
 use Rattle.table_model.specs.Visible.{gather, rows_shown}
 use Rattle.table_model.specs.Accepted.{Makes}
 use Rattle.table_model.specs.Legal.{IsAccepted, EachIsAccepted, IsLegal, Takes}
@@ -45,7 +46,7 @@ accepted_at columns first (other ∷ before) entry more each =
 pub made : EntriesAreMade
 made columns before entry more legal =
     let accepted = accepted_at columns [] before entry more legal in
-    answer_by-Accept (facts_of (length columns) before entry.caller) (λ on. state_of before on) accepted.asked accepted.reading entry accepted.reply accepted.answered
+    answer_by-Accept (facts_of (length columns) before entry.caller) (look_of before) accepted.asked accepted.reading entry accepted.reply accepted.answered
 
 -- what is told of a stream that is there
 pub state_of-Some : (history : History) (on : StreamRef) (state : StreamState) → state_of history on ≡ Some state → (has_stream history on ≡ true) × (state_in history on ≡ state)
@@ -55,13 +56,15 @@ state_of-Some history on state there = either (has_stream history on) there
     either true h = (refl, cc)
     either false h = absurd (cc)
 
-stands_at_end : (facts : Facts) (before : History) (c : Change) → Makes facts (λ on. state_of before on) c → StandsAtEnd before c
+stands_at_end : (facts : Facts) (before : History) (c : Change) → Makes facts (look_of before) c → StandsAtEnd before c
 stands_at_end facts before (change.Append on offset rows bytes) makes =
     makes.at_end ∙ ap (λ state. state.rows) (sym (state_of-Some before on makes.state makes.there).1)
 stands_at_end facts before (change.Create number kind) makes = tt
 stands_at_end facts before (change.Flush on upto) makes = tt
 stands_at_end facts before (change.Finalise on) makes = tt
 stands_at_end facts before (change.Commit streams) makes = tt
+stands_at_end facts before (change.Session number at pred fields roots) makes = tt
+stands_at_end facts before (change.Split session node left right) makes = tt
 
 pub at_end : AppendsStandAtEnd
 at_end columns before entry more legal =
@@ -78,7 +81,7 @@ legal_after : (columns : List Column) (history : History) (caller : ℕ) (c : Co
     → answer_of (length columns) history caller c now ≡ answer → Takes columns c → now ≤ℤ LATEST_READING
     → IsLegal columns history → IsLegal columns (history_after history answer)
 legal_after columns history caller c now (Accept entry told) e taken in_time legal =
-    let is = answer_by-Accept (facts_of (length columns) history caller) (λ on. state_of history on) c now entry told e in
+    let is = answer_by-Accept (facts_of (length columns) history caller) (look_of history) c now entry told e in
     legal-push columns [] history entry legal (record {
       asked = c;
       reading = now;

@@ -24,6 +24,7 @@ use Rattle.table_model.specs.Streams.{is_one_stream, is_default, is_committed_ki
 use Rattle.table_model.specs.History.{History, is_create, streams_of}
 use Rattle.table_model.specs.Content.{rows_onto, end_of}
 use Rattle.table_model.specs.Facts.{kind_after, kind_of, commits, committed_of, finalises, is_finalised, flushed_after, flushed_of, has_stream, state_in, state_of, facts_of}
+use Rattle.table_model.specs.Look.{look_of}
 use Rattle.table_model.specs.Visible.{Source, shows_at_once, sources_from, sources_in, sources_shown, sources_of, shown_by, shown_of, is_source, times}
 use Rattle.table_model.specs.Checks.{names_twice, stream_code, stream_errors, error_at}
 use Rattle.table_model.specs.Accepted.{Makes}
@@ -140,7 +141,7 @@ is_finalised-push history entry on was = list_any-append (λ e. finalises on e.c
 streams_of-push : (history : History) (entry : Entry) → streams_of history ≤ streams_of (history ++ entry ∷ [])
 streams_of-push history entry = rw (sum_by_push (λ e. cond (is_create e.change) 1 0) history entry) (omega arith)
 
-sources_of-push : (history : History) (entry : Entry) → sources_of (history ++ entry ∷ []) ≡ sources_of history ++ sources_shown history entry.change
+pub sources_of-push : (history : History) (entry : Entry) → sources_of (history ++ entry ∷ []) ≡ sources_of history ++ sources_shown history entry.change
 sources_of-push history entry = gather-append sources_shown [] history (entry ∷ []) ∙ ap (λ xs. sources_of history ++ xs) (append-nil (sources_shown history entry.change))
 
 has_stream-push : (history : History) (entry : Entry) (on : StreamRef) → has_stream history on ≡ true → has_stream (history ++ entry ∷ []) on ≡ true
@@ -158,6 +159,8 @@ kind_of-default history stream.Default e = from history kind.Committed
     stays before (change.Flush on upto) = refl
     stays before (change.Finalise on) = refl
     stays before (change.Commit streams) = refl
+    stays before (change.Session number at pred fields roots) = refl
+    stays before (change.Split session node left right) = refl
 
     from : (history : History) (before : StreamKind) → fold (λ k e. kind_after stream.Default k e.change) before history ≡ before
     from [] before = refl
@@ -360,7 +363,7 @@ create_adds history number new moment keeps next on i = either (is_one_stream on
         zero-add (shown_now i (shown_of history on)) ∙ ap (shown_now i) (was ∙ sym stays)
 
 -- what a change adds to the sources is what it adds to the visible rows of each stream
-adds : (columns : ℕ) (history : History) (caller : ℕ) (c : Change) (moment : ℤ) → Keeps history → Makes (facts_of columns history caller) (λ s. state_of history s) c
+adds : (columns : ℕ) (history : History) (caller : ℕ) (c : Change) (moment : ℤ) → Keeps history → Makes (facts_of columns history caller) (look_of history) c
     → (on : StreamRef) (i : ℕ) → times on i (sources_shown history c) + shown_now i (shown_of history on) ≡ shown_now i (shown_after history c moment on)
 adds columns history caller (change.Create number new) moment keeps makes on i = create_adds history number new moment keeps makes.next on i
 adds columns history caller (change.Append s at rows bytes) moment keeps makes on i =
@@ -381,6 +384,8 @@ adds columns history caller (change.Flush s upto) moment keeps makes on i =
     flush_adds history s upto moment (ap (λ st. is_buffered st.kind) is ∙ makes.buffered) (omega arith) (omega arith) on i
 adds columns history caller (change.Finalise s) moment keeps makes on i = unchanged history on i
 adds columns history caller (change.Commit streams) moment keeps makes on i = commit_adds history streams moment makes.once makes.good on i
+adds columns history caller (change.Session number at pred fields roots) moment keeps makes on i = unchanged history on i
+adds columns history caller (change.Split session node left right) moment keeps makes on i = unchanged history on i
 
 -- a change leaves the streams alone that aren't there
 record IsUntouched (history : History) (c : Change) (on : StreamRef) : Type 0 where
@@ -395,7 +400,7 @@ there_is history s state on there gone = either (is_one_stream on s) refl
     either false e = refl
     either true e = absurd (cc ((state_of-Some history s state there).0, ap (has_stream history) (one_stream on s e), gone))
 
-untouched : (columns : ℕ) (history : History) (caller : ℕ) (c : Change) → Makes (facts_of columns history caller) (λ s. state_of history s) c
+untouched : (columns : ℕ) (history : History) (caller : ℕ) (c : Change) → Makes (facts_of columns history caller) (look_of history) c
     → (on : StreamRef) → has_stream history on ≡ false → IsUntouched history c on
 untouched columns history caller (change.Create number new) makes on gone = record { rows = refl; flushed = refl; committed = refl }
 untouched columns history caller (change.Append s at rows bytes) makes on gone = record {
@@ -409,6 +414,8 @@ untouched columns history caller (change.Flush s upto) makes on gone = record {
   committed = refl;
 }
 untouched columns history caller (change.Finalise s) makes on gone = record { rows = refl; flushed = refl; committed = refl }
+untouched columns history caller (change.Session number at pred fields roots) makes on gone = record { rows = refl; flushed = refl; committed = refl }
+untouched columns history caller (change.Split session node left right) makes on gone = record { rows = refl; flushed = refl; committed = refl }
 untouched columns history caller (change.Commit streams) makes on gone = record { rows = refl; flushed = refl; committed = either (list_any (is_one_stream on) streams) refl }
   where
     either : (b : Bool) → list_any (is_one_stream on) streams ≡ b → b ≡ false
@@ -418,12 +425,14 @@ untouched columns history caller (change.Commit streams) makes on gone = record 
         absurd (cc ((state_of-Some history on fine.0 fine.1).0, gone))
 
 -- a stream that is committed is finalised
-closes : (columns : ℕ) (history : History) (caller : ℕ) (c : Change) → Makes (facts_of columns history caller) (λ s. state_of history s) c
+closes : (columns : ℕ) (history : History) (caller : ℕ) (c : Change) → Makes (facts_of columns history caller) (look_of history) c
     → (on : StreamRef) → commits on c ≡ true → is_finalised history on ≡ true
 closes columns history caller (change.Create number new) makes on e = absurd (cc)
 closes columns history caller (change.Append s at rows bytes) makes on e = absurd (cc)
 closes columns history caller (change.Flush s upto) makes on e = absurd (cc)
 closes columns history caller (change.Finalise s) makes on e = absurd (cc)
+closes columns history caller (change.Session number at pred fields roots) makes on e = absurd (cc)
+closes columns history caller (change.Split session node left right) makes on e = absurd (cc)
 closes columns history caller (change.Commit streams) makes on e =
     let fine = good_of (state_of history on) (each_good (λ s. state_of history s) 0 streams on makes.good e) in
     ap (λ st. st.finalised) (state_of-Some history on fine.0 fine.1).1 ∙ fine.4
@@ -436,7 +445,7 @@ shown_of-push history entry on =
     ∙ ap (λ n. shown_by on (kind_after on (kind_of history on) entry.change) (end_of history on + length (rows_onto on entry.change)) n (committed_of after on)) (flushed_of-push history entry on)
     ∙ ap (λ o. shown_by on (kind_after on (kind_of history on) entry.change) (end_of history on + length (rows_onto on entry.change)) (flushed_after on (flushed_of history on) entry.change) o) (committed_of-push history entry on)
 
-Keeps-push : (columns : ℕ) (history : History) (entry : Entry) → Keeps history → Makes (facts_of columns history entry.caller) (λ s. state_of history s) entry.change
+Keeps-push : (columns : ℕ) (history : History) (entry : Entry) → Keeps history → Makes (facts_of columns history entry.caller) (look_of history) entry.change
     → Keeps (history ++ entry ∷ [])
 Keeps-push columns history entry keeps makes = record {
   no_rows = λ on gone.
@@ -486,7 +495,7 @@ Keeps-empty = record {
 Keeps-more : (columns : List Column) (before more : History) → Keeps before → EachIsAccepted columns before more → Keeps (before ++ more)
 Keeps-more columns before [] keeps each = rw (append-nil before) keeps
 Keeps-more columns before (entry ∷ more) keeps each =
-    let made = answer_by-Accept (facts_of (length columns) before entry.caller) (λ on. state_of before on) each.0.asked each.0.reading entry each.0.reply each.0.answered in
+    let made = answer_by-Accept (facts_of (length columns) before entry.caller) (look_of before) each.0.asked each.0.reading entry each.0.reply each.0.answered in
     rw (← append_assoc before (entry ∷ []) more) (
     Keeps-more columns (before ++ entry ∷ []) more (Keeps-push (length columns) before entry keeps made.makes) each.1)
 

@@ -9,12 +9,14 @@ use Rattle.table_model.specs.declared.reasons.Refusal.{Refusal}
 use Rattle.table_model.specs.declared.reasons.Why.TheVariants as why
 use Rattle.table_model.specs.declared.streams.StreamRef.{StreamRef}
 use Rattle.table_model.specs.declared.streams.StreamState.{StreamState}
+use Rattle.table_model.specs.declared.sessions.ReadNode.{ReadNode}
 use Rattle.table_model.specs.declared.checks.FlushMove.{FlushMove}
 use Rattle.table_model.specs.declared.checks.FinalMove.{FinalMove}
 use Rattle.table_model.specs.Reasons.{refusal_of}
 use Rattle.table_model.specs.Rules.{Rule, unless}
 use Rattle.table_model.specs.Offsets.{offset_is, offset_rules}
 use Rattle.table_model.specs.Streams.{is_one_stream, is_default, is_pending, is_buffered}
+use Rattle.table_model.specs.Sessions.{is_expired}
 
 -- an append of some rows, at an offset or at the end
 abbrev pub append_rules : StreamRef → StreamState → Option ℤ → ℕ → List Rule
@@ -88,3 +90,12 @@ commit_check look streams = unless (commit_rules streams) (stream_errors look st
 abbrev pub get_check : Option StreamState → Result StreamState Refusal
 get_check None = Err (refusal_of why.NoStream)
 get_check (Some state) = unless [] state
+
+-- A node of a session can be read and split until the session expires. `now` is the greater of the clock's reading and the
+-- moment of the history.
+abbrev pub read_rules : ReadNode → ℤ → List Rule
+read_rules state now = (is_expired state.moment now, why.Expired) ∷ []
+
+abbrev pub read_check : Option ReadNode → ℤ → Result ReadNode Refusal
+read_check None now = Err (refusal_of why.NoRead)
+read_check (Some state) now = unless (read_rules state now) state

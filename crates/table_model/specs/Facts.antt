@@ -11,7 +11,7 @@ use Rattle.table_model.specs.declared.streams.StreamKind.TheVariants as kind
 use Rattle.table_model.specs.declared.streams.StreamState.{StreamState}
 use Rattle.table_model.specs.declared.facts.Facts.{Facts}
 use Rattle.table_model.specs.Streams.{is_one_stream}
-use Rattle.table_model.specs.History.{History, moment_of, streams_of, entries_by}
+use Rattle.table_model.specs.History.{History, moment_of, streams_of, sessions_of, entries_by}
 use Rattle.table_model.specs.Content.{end_of}
 
 -- the type that its Create gave it; the default stream, which has no Create, is COMMITTED
@@ -103,6 +103,7 @@ facts_of columns history caller = record {
   columns = columns;
   entries = length history;
   streams = streams_of history;
+  sessions = sessions_of history;
   weight = weight_of columns history;
   latest = moment_of history;
   caller = caller;

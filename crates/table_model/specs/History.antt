@@ -21,6 +21,14 @@ is_create _ = false
 abbrev pub streams_of : History → ℕ
 streams_of history = count_by (λ entry. is_create entry.change) history
 
+abbrev pub is_session : Change → Bool
+is_session (change.Session number at pred fields roots) = true
+is_session _ = false
+
+-- the read sessions that were begun: they are numbered from 1 to this number
+abbrev pub sessions_of : History → ℕ
+sessions_of history = count_by (λ entry. is_session entry.change) history
+
 -- the entries of this caller
 abbrev pub entries_by : ℕ → History → ℕ
 entries_by caller history = count_by (λ entry. entry.caller == caller) history

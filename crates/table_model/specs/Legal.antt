@@ -3,6 +3,8 @@ use Rattle.std.specs.Prelude.{◌≡◌, ◌<◌, ◌≤◌, ◌^◌, ℤ, ◌�
 use Rattle.column_types.specs.declared.column.Column.{Column}
 use Rattle.column_types.specs.Row.{Fits}
 use Rattle.column_types.specs.Sizes.{bytes_of_row}
+use Rattle.column_types.specs.Typed.{IsTyped}
+use Rattle.column_types.specs.Fields.{IsMadeFor}
 use Rattle.table_model.specs.declared.limits.TheConstants.{LATEST_READING}
 use Rattle.table_model.specs.declared.commands.Command.{Command}
 use Rattle.table_model.specs.declared.commands.Command.TheVariants as command
@@ -12,9 +14,11 @@ use Rattle.table_model.specs.declared.replies.Reply.{Reply}
 use Rattle.table_model.specs.History.{History}
 use Rattle.table_model.specs.Answer.{answer_of}
 
--- The rows of an append fit the columns, and the bytes of their texts are at most its `bytes`.
+-- The rows of an append fit the columns, and the bytes of their texts are at most its `bytes`. The restriction of a session
+-- is typed, and its columns are chosen among the table's.
 abbrev pub FitsTable : List Column → Command → Type 0
 FitsTable columns (command.Append on offset rows bytes) = All (Fits columns) rows × (sum_by bytes_of_row rows ≤ bytes)
+FitsTable columns (command.Session pred fields count snapshot) = IsTyped columns pred × IsMadeFor columns fields
 FitsTable columns _ = Unit {0}
 
 -- A commit names fewer than 2^32 streams.

@@ -8,10 +8,13 @@ pub mod History
 pub mod Content
 pub mod Facts
 pub mod Visible
+pub mod Sessions
+pub mod Look
 pub mod Checks
 pub mod Committing
 pub mod Answer
 pub mod Accepted
+pub mod Fits
 pub mod Legal
 pub mod Table
 pub mod Laws

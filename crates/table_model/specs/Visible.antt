@@ -1,5 +1,5 @@
 -- The visible rows of a table, in their order, and beside them the stream and the offset from which each came.
-use Rattle.std.specs.Prelude.{ℕ, ℤ, Bool, ◌&&◌, ◌||◌, ◌==◌, Option, is_some, List, [], ◌∷◌, ◌++◌, length, map, take, drop, count_by, if◌then◌else◌}
+use Rattle.std.specs.Prelude.{ℕ, ℤ, Bool, ◌&&◌, ◌||◌, ◌==◌, Option, is_some, List, [], ◌∷◌, ◌++◌, length, map, take, drop, count_by, slice_get, if◌then◌else◌}
 use Rattle.std.specs.List.{flat_map, range_with_len}
 use Rattle.column_types.specs.declared.row.Row.{Row}
 use Rattle.table_model.specs.declared.entries.Change.{Change}
@@ -49,6 +49,10 @@ sources_shown before _ = []
 
 abbrev pub sources_of : History → List Source
 sources_of history = gather sources_shown [] history
+
+-- the row at this offset of this stream
+abbrev pub row_at : History → Source → Option Row
+row_at history source = slice_get (content_of history source.0) source.1
 
 -- How many rows of a stream are visible: all of a COMMITTED stream and of the default stream, those flushed of a
 -- BUFFERED one, and of a PENDING one all once it is committed.

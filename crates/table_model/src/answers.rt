@@ -1,37 +1,47 @@
 //! The one answer to each command, by the facts of a history and a look-up of its streams.
 #![tactic(auto, unfolding(crate::specs::Answer::answer_by))]
 
-ghost use Rattle.std.specs.Prelude.{◌≡◌, ◌+◌, ◌<◌, ◌^◌, nat_lt, nat_le, length, IfOk};
-ghost use Rattle.table_model.specs.declared.limits.TheConstants.{MAX_ENTRIES as most_entries, MAX_WEIGHT as most_weight};
+ghost use Rattle.std.specs.Prelude.{◌≡◌, ◌+◌, ◌<◌, ◌^◌, ◌≤ℤ◌, nat_lt, nat_le, length, IfOk};
+ghost use Rattle.table_model.specs.declared.limits.TheConstants.{LATEST_READING as latest_reading, MAX_ENTRIES as most_entries, MAX_WEIGHT as most_weight};
 ghost use Rattle.table_model.specs.Facts.{size_of_rows};
-ghost use Rattle.table_model.specs.Answer.{answer_by, append_answer, commit_answer, commit_or_not as commit_or_not_of, create_answer, entry_of, finalise_answer, flush_answer, get_answer, moment_at as moment_at_of, moment_of_others as moment_of_others_of};
+ghost use Rattle.table_model.specs.Answer.{answer_by, append_answer, commit_answer, commit_or_not as commit_or_not_of, create_answer, cut_answer, entry_of, finalise_answer, flush_answer, get_answer, moment_at as moment_at_of, session_answer, split_answer};
 ghost use Rattle.table_model.specs.Checks.{commit_check as commit_check_of};
 ghost use Rattle.table_model.specs.Reasons.{refusal_of};
 ghost use Rattle.table_model.specs.Legal.{HasPlaces};
 
-use super::checks::{FinalMove, FlushMove, append_check, finalise_check, flush_check, get_check};
+use super::checks::{
+    FinalMove, FlushMove, append_check, finalise_check, flush_check, get_check, read_check,
+};
 use super::commands::{Command, Rows};
 use super::commits::{CommitFault, commit_check};
 use super::entries::{Change, Entry};
-use super::facts::{Facts, Streams};
-use super::limits::{COLUMN_OVERHEAD, MAX_ENTRIES, MAX_STREAMS, MAX_WEIGHT, ROW_OVERHEAD};
+use super::facts::{Facts, Sessions, Streams};
+use super::limits::{
+    COLUMN_OVERHEAD, MAX_ENTRIES, MAX_SESSIONS, MAX_STREAMS, MAX_WEIGHT, ROW_OVERHEAD,
+    SESSION_LIFETIME,
+};
 use super::reasons::{Refusal, Why};
 use super::replies::{Answer, Reply, StreamErrors};
+use super::sessions::ReadNode;
 use super::streams::{Refs, StreamKind, StreamRef, StreamState};
+use column_types::{Fields, Pred};
 use outside::Memory;
+use split_tree::{Cut, roots_of};
 use std::alloc::Global;
 
-/// What a command is answered, by the facts of the history, the look-up of its streams and a reading
-/// of the clock.
-pub fn answer_to<S: Streams>(
+/// What a command is answered, by the facts of the history, the look-up of its streams and sessions and a reading
+/// of the clock, in microseconds since 1970-01-01, which like the latest moment is at most
+/// [`LATEST_READING`](super::limits::LATEST_READING).
+pub fn answer_to<S: Streams + Sessions>(
     alloc: Global,
     facts: &Facts,
     look: &S,
     command: Command,
     now: i64,
 ) -> Result<Answer, Memory>
-    requires { HasPlaces command }
-    ensures { IfOk result (λ answer. answer ≡ answer_by facts.now (S.state look.now) command now) }
+    requires places { HasPlaces command }
+    requires in_time { moment_at_of facts.now now ≤ℤ latest_reading }
+    ensures { IfOk result (λ answer. answer ≡ answer_by facts.now (record { stream = S.state look.now; node = S.read_node look.now; visible_by = S.visible_by look.now }) command now) }
 {
     Ok(match command {
         Command::Create { kind } => create(facts, kind, now),
@@ -54,6 +64,17 @@ pub fn answer_to<S: Streams>(
         }
         Command::Commit { streams } => commit(alloc, facts, look, streams, now)?,
         Command::Get { stream } => get(get_check(look.state(stream))),
+        Command::Session {
+            pred,
+            fields,
+            count,
+            snapshot,
+        } => session(alloc, facts, look, pred, fields, count, snapshot, now)?,
+        Command::Split { session, node } => {
+            let found = look.node(alloc, session, node)?;
+            let check = read_check(found, moment_at(facts, now));
+            split(facts, session, node, check, now)
+        }
     })
 }
 
@@ -75,18 +96,11 @@ fn entry(facts: &Facts, moment: i64, change: Change) -> Entry
     }
 }
 
-// The moment of a creation or a commit.
+// The moment of an entry.
 fn moment_at(facts: &Facts, now: i64) -> i64
     ensures { result ≡ moment_at_of facts.now now }
 {
     facts.latest.max(now)
-}
-
-// The moment of every other entry.
-fn moment_of_others(facts: &Facts, _now: i64) -> i64
-    ensures { result ≡ moment_of_others_of facts.now _now }
-{
-    facts.latest
 }
 
 fn is_full(facts: &Facts) -> bool
@@ -161,7 +175,7 @@ fn append(
         rows,
         bytes,
     };
-    let moment = moment_of_others(facts, now);
+    let moment = moment_at(facts, now);
     Answer::Accept(
         entry(facts, moment, change),
         Reply::Appended { offset: told },
@@ -182,7 +196,7 @@ fn flush(facts: &Facts, stream: StreamRef, check: Result<FlushMove, Refusal>, no
     if is_full(facts) {
         return refuse(Why::FullEntries);
     }
-    let moment = moment_of_others(facts, now);
+    let moment = moment_at(facts, now);
     let change = Change::Flush { stream, upto };
     Answer::Accept(
         entry(facts, moment, change),
@@ -203,7 +217,7 @@ fn finalise(facts: &Facts, stream: StreamRef, check: Result<FinalMove, Refusal>,
     if is_full(facts) {
         return refuse(Why::FullEntries);
     }
-    let moment = moment_of_others(facts, now);
+    let moment = moment_at(facts, now);
     let change = Change::Finalise { stream };
     Answer::Accept(entry(facts, moment, change), Reply::Finalised { rows })
 }
@@ -251,4 +265,88 @@ fn get(check: Result<StreamState, Refusal>) -> Answer
         }),
         Err(refusal) => Answer::Refuse(refusal),
     }
+}
+
+// A session is begun, over the rows that are visible now or were visible at the moment of its snapshot.
+fn session<S: Sessions>(
+    alloc: Global,
+    facts: &Facts,
+    look: &S,
+    pred: Pred,
+    fields: Fields,
+    count: i32,
+    snapshot: Option<i64>,
+    now: i64,
+) -> Result<Answer, Memory>
+    requires in_time { moment_at_of facts.now now ≤ℤ latest_reading }
+    ensures { IfOk result (λ answer. answer ≡ session_answer facts.now (S.visible_by look.now) pred fields count snapshot now) }
+{
+    if count < 0 {
+        return Ok(refuse(Why::NegativeCount));
+    }
+    if facts.sessions >= MAX_SESSIONS {
+        return Ok(refuse(Why::FullSessions));
+    }
+    if is_full(facts) {
+        return Ok(refuse(Why::FullEntries));
+    }
+    let moment = moment_at(facts, now);
+    let at = look.visible_by(alloc, snapshot.unwrap_or(moment))?;
+    let roots = roots_of(at, count as u32);
+    let session = facts.sessions + 1;
+    let expires = moment + SESSION_LIFETIME;
+    let change = Change::Session {
+        session,
+        at,
+        pred,
+        fields,
+        roots,
+    };
+    let told = Reply::Session {
+        session,
+        roots,
+        expires,
+    };
+    Ok(Answer::Accept(entry(facts, moment, change), told))
+}
+
+// A node of a session is split.
+fn split(
+    facts: &Facts,
+    session: u32,
+    node: u32,
+    check: Result<ReadNode, Refusal>,
+    now: i64,
+) -> Answer
+    ensures { result ≡ split_answer facts.now session node check now }
+{
+    match check {
+        Ok(state) => cut_open(facts, session, node, state.node.cut(state.nodes), now),
+        Err(refusal) => Answer::Refuse(refusal),
+    }
+}
+
+// What the cut of a node is answered.
+fn cut_open(facts: &Facts, session: u32, node: u32, cut: Cut, now: i64) -> Answer
+    ensures { result ≡ cut_answer facts.now session node cut now }
+{
+    let (left, right) = match cut {
+        Cut::Small => return Answer::Same(Reply::NoSplit),
+        Cut::Already { left, right } => return Answer::Same(Reply::Children { left, right }),
+        Cut::Full { nodes: _ } => return refuse(Why::FullNodes),
+        Cut::Made { left, right } => (left, right),
+    };
+    if is_full(facts) {
+        return refuse(Why::FullEntries);
+    }
+    let change = Change::Split {
+        session,
+        node,
+        left,
+        right,
+    };
+    Answer::Accept(
+        entry(facts, moment_at(facts, now), change),
+        Reply::Children { left, right },
+    )
 }

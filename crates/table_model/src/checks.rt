@@ -1,13 +1,16 @@
 //! What a command on a write stream is answered by what is known of the stream.
 
 ghost use Rattle.std.specs.Prelude.{◌≡◌};
-ghost use Rattle.table_model.specs.Checks.{append_check as append_check_of, finalise_check as finalise_check_of, flush_check as flush_check_of, get_check as get_check_of, stream_code as stream_code_of};
+ghost use Rattle.table_model.specs.Sessions.{is_expired as is_expired_of};
+ghost use Rattle.table_model.specs.Checks.{append_check as append_check_of, finalise_check as finalise_check_of, flush_check as flush_check_of, get_check as get_check_of, read_check as read_check_of, stream_code as stream_code_of};
 
+use super::limits::SESSION_LIFETIME;
 use super::offsets::offset_refusal;
 use super::reasons::{Refusal, Why};
 use super::replies::{
     INVALID_STREAM_STATE, INVALID_STREAM_TYPE, STREAM_ALREADY_COMMITTED, STREAM_NOT_FOUND,
 };
+use super::sessions::ReadNode;
 use super::streams::{StreamRef, StreamState};
 
 /// How far a flush goes: from the flushed count to the greater of it and the count that is asked.
@@ -130,4 +133,30 @@ pub fn stream_code(state: Option<StreamState>) -> Option<u32>
         return Some(INVALID_STREAM_STATE);
     }
     None
+}
+
+/// Whether a session that was begun at this moment has expired; both in microseconds since 1970-01-01.
+pub fn is_expired(moment: i64, now: i64) -> bool
+    ensures { result ≡ is_expired_of moment now }
+{
+    match moment.checked_add(SESSION_LIFETIME) {
+        Some(expiry) => expiry <= now,
+        None => false,
+    }
+}
+
+/// What is known of a node of a session that can still be read and split. `now` is the greater of the clock's reading and
+/// the moment of the history.
+///
+/// Refused, in this order: `NoRead` where there is no such node, `Expired`.
+pub fn read_check(found: Option<ReadNode>, now: i64) -> Result<ReadNode, Refusal>
+    ensures { result ≡ read_check_of found now }
+{
+    let Some(state) = found else {
+        return Err(Refusal::of(Why::NoRead));
+    };
+    if is_expired(state.moment, now) {
+        return Err(Refusal::of(Why::Expired));
+    }
+    Ok(state)
 }

@@ -3,7 +3,7 @@
 ghost use Rattle.std.specs.Prelude.{◌≡◌, IfOk};
 
 use super::streams::{Refs, StreamKind, StreamRef};
-use column_types::Row;
+use column_types::{Fields, Pred, Row};
 use outside::Memory;
 use sqlite_items::Items;
 use std::alloc::Global;
@@ -11,7 +11,7 @@ use std::alloc::Global;
 /// Rows, which contracts see as the list of their lists of cells.
 pub type Rows = Items<Row>;
 
-/// A command to a table. The commands of read sessions, Session and Split, will stand behind `Get`.
+/// A command to a table.
 #[derive(Drop)]
 pub enum Command {
     /// Create a write stream.
@@ -43,6 +43,20 @@ pub enum Command {
     Get {
         stream: StreamRef,
     },
+    /// Begin a read session over the rows that are visible now or, where a snapshot is given, that were visible at that
+    /// moment, in microseconds since 1970-01-01: of these the rows that the restriction keeps, each with the chosen
+    /// columns. `count` is how many read streams are asked for; 0 leaves that to the table.
+    Session {
+        pred: Pred,
+        fields: Fields,
+        count: i32,
+        snapshot: Option<i64>,
+    },
+    /// Split a read stream of a session in two.
+    Split {
+        session: u32,
+        node: u32,
+    },
 }
 
 impl Command {
@@ -72,6 +86,21 @@ impl Command {
                 streams: Refs::from_slice(alloc, streams.as_slice())?,
             },
             Command::Get { stream } => Command::Get { stream: *stream },
+            Command::Session {
+                pred,
+                fields,
+                count,
+                snapshot,
+            } => Command::Session {
+                pred: pred.copy(alloc)?,
+                fields: fields.copy(alloc)?,
+                count: *count,
+                snapshot: *snapshot,
+            },
+            Command::Split { session, node } => Command::Split {
+                session: *session,
+                node: *node,
+            },
         })
     }
 }

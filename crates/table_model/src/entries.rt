@@ -2,6 +2,7 @@
 
 use super::commands::Rows;
 use super::streams::{Refs, StreamKind, StreamRef};
+use column_types::{Fields, Pred};
 
 /// An accepted command.
 #[derive(Drop)]
@@ -15,8 +16,7 @@ pub struct Entry {
     pub change: Change,
 }
 
-/// What an accepted command changes. The changes of read sessions, Session and Split, will stand
-/// behind `Commit`.
+/// What an accepted command changes.
 #[derive(Drop)]
 pub enum Change {
     /// The stream with this number is there.
@@ -43,5 +43,20 @@ pub enum Change {
     /// All rows of these streams are visible, stream by stream.
     Commit {
         streams: Refs,
+    },
+    /// The read session with this number is there, over the first `at` visible rows, with this many roots.
+    Session {
+        session: u32,
+        at: u64,
+        pred: Pred,
+        fields: Fields,
+        roots: u32,
+    },
+    /// The node of the session is split into these two.
+    Split {
+        session: u32,
+        node: u32,
+        left: u32,
+        right: u32,
     },
 }

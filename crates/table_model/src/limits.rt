@@ -19,3 +19,9 @@ pub const MAX_STREAMS: u32 = 10_000;
 /// The latest reading of a clock, in microseconds since 1970-01-01: six hours later is still in the
 /// year 9999.
 pub const LATEST_READING: i64 = 253_402_279_199_999_999;
+
+/// The read sessions of a table, at most.
+pub const MAX_SESSIONS: u32 = 4_096;
+
+/// How long a read session can be read, in microseconds: six hours.
+pub const SESSION_LIFETIME: i64 = 21_600_000_000;

@@ -9,12 +9,15 @@ ghost use Rattle.table_model.specs.Table.{HasRoom, IsWithin, Stepped, Taken};
 use super::answers::answer_to;
 use super::commands::Command;
 use super::entries::Entry;
-use super::facts::{Facts, Streams};
+use super::facts::{Facts, Sessions, Streams};
 use super::replies::{Answer, Reply};
+use super::session_walks::read_node;
+use super::sessions::ReadNode;
 use super::streams::{StreamRef, StreamState};
+use super::visible_walks::visible_by;
 use super::walks::{
-    committed, created, end, entries_by, finalised, flushed, has_stream, kind, latest, streams,
-    weight,
+    committed, created, end, entries_by, finalised, flushed, has_stream, kind, latest, sessions,
+    streams, weight,
 };
 use column_types::Schema;
 use outside::Memory;
@@ -29,9 +32,13 @@ pub struct Plain {
 }
 
 impl Model for Plain {
+    ghost use Rattle.std.specs.Coded.{codes};
+    ghost use Rattle.column_types.specs.contracts.predicate.Pred as pred_code;
     ghost use Rattle.table_model.specs.Table.{Table, IsWithin};
 
     ghost Value = { Table };
+
+    ghost coded = { Prim.hlevel (codes, pred_code.the_row.coded) };
 
     ghost view = { λ p. record { columns = p.schema; entries = p.entries.items } };
 
@@ -125,6 +132,7 @@ impl Plain {
             columns,
             entries: entries.len(),
             streams: streams(entries),
+            sessions: sessions(entries),
             weight: weight(columns, entries),
             latest: latest(entries),
             caller,
@@ -151,5 +159,21 @@ impl Streams for Plain {
             flushed: flushed(entries, stream),
             finalised: finalised(entries, stream),
         })
+    }
+}
+
+impl Sessions for Plain {
+    ghost use Rattle.table_model.specs.Sessions.{read_node_of, visible_by as visible_by_of};
+
+    ghost read_node = { λ table session node. read_node_of table.entries session node };
+
+    ghost visible_by = { λ table moment. visible_by_of table.entries moment };
+
+    fn node(&self, alloc: Global, session: u32, node: u32) -> Result<Option<ReadNode>, Memory> {
+        read_node(alloc, self.entries.as_slice(), session, node)
+    }
+
+    fn visible_by(&self, _alloc: Global, moment: i64) -> Result<u64, Memory> {
+        Ok(visible_by(self.entries.as_slice(), moment))
     }
 }

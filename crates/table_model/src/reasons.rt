@@ -14,6 +14,8 @@ pub enum Why {
     NoStream,
     /// There is no such read session or read stream.
     NoRead,
+    /// The read session has expired.
+    Expired,
     /// The call gave no writer schema so far.
     NoSchema,
     /// The writer schema is no descriptor of a message with fields.
@@ -62,6 +64,8 @@ pub enum Why {
     OtherTable,
     /// The data format isn't AVRO.
     BadFormat,
+    /// The snapshot time is no time.
+    BadTime,
     /// The number of streams is below 0.
     NegativeCount,
     /// The row restriction is too long.
@@ -82,7 +86,7 @@ impl Why {
         match self {
             Why::AlreadyWritten => 6,
             Why::PastEnd => 11,
-            Why::Finalised => 9,
+            Why::Finalised | Why::Expired => 9,
             Why::NoTable | Why::NoStream | Why::NoRead => 5,
             Why::FullRows
             | Why::FullEntries
@@ -102,6 +106,7 @@ impl Why {
             Why::NoTable => "no such table",
             Why::NoStream => "no such write stream",
             Why::NoRead => "no such read stream",
+            Why::Expired => "read session has expired",
             Why::NoSchema => "no writer schema",
             Why::BadDescriptor => "bad descriptor",
             Why::ExtraField { .. } => "field not in table: ",
@@ -126,6 +131,7 @@ impl Why {
             Why::Twice => "stream named twice",
             Why::OtherTable => "stream of another table",
             Why::BadFormat => "bad data format",
+            Why::BadTime => "bad snapshot time",
             Why::NegativeCount => "negative stream count",
             Why::Long => "restriction too long",
             Why::Syntax { .. } => "restriction syntax at ",

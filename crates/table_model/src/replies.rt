@@ -30,8 +30,7 @@ pub struct StreamError {
 /// Stream errors, which contracts see as their list.
 pub type StreamErrors = Items<StreamError>;
 
-/// The reply to a command. The replies of read sessions, Session, Children and NoSplit, will stand
-/// before `Refused`.
+/// The reply to a command.
 #[derive(Drop)]
 pub enum Reply {
     /// The stream with this number was created at this moment.
@@ -65,6 +64,20 @@ pub enum Reply {
         created: Option<i64>,
         committed: Option<i64>,
     },
+    /// The read session with this number is there, with this many read streams. It can be read until it expires, at this
+    /// moment.
+    Session {
+        session: u32,
+        roots: u32,
+        expires: i64,
+    },
+    /// The read streams into which one was split.
+    Children {
+        left: u32,
+        right: u32,
+    },
+    /// The read stream has too few rows for a split.
+    NoSplit,
     /// Nothing was done.
     Refused(Refusal),
 }

@@ -4,7 +4,7 @@ ghost use Rattle.std.specs.Prelude.{◌≡◌, ◌<◌, ◌≤◌, ◌^◌, leng
 ghost use Rattle.std.specs.List.{list_any};
 ghost use Rattle.table_model.specs.Streams.{is_one_stream};
 ghost use Rattle.table_model.specs.declared.limits.TheConstants.{MAX_ENTRIES as most_entries, MAX_WEIGHT as most_weight};
-ghost use Rattle.table_model.specs.History.{is_create as is_create_of, moment_of, streams_of, entries_by as entries_by_of};
+ghost use Rattle.table_model.specs.History.{is_create as is_create_of, is_session as is_session_of, moment_of, sessions_of, streams_of, entries_by as entries_by_of};
 ghost use Rattle.table_model.specs.Content.{rows_onto as rows_onto_of, end_of};
 ghost use Rattle.table_model.specs.Facts.{kind_after as kind_after_of, kind_of, creates as creates_of, commits as commits_of, finalises as finalises_of, created_of, committed_of, is_finalised, flushed_after as flushed_after_of, flushed_of, has_stream as has_stream_of, size_added as size_added_of, weight_of};
 
@@ -42,6 +42,27 @@ fn is_create(change: &Change) -> bool
     ensures { result ≡ is_create_of change.now }
 {
     matches!(change, Change::Create { .. })
+}
+
+/// The read sessions that were begun.
+#[tactic(auto, using(crate::proofs::WalkLemmas::count_more_le))]
+pub(crate) fn sessions(entries: &[Entry]) -> u32
+    requires { length entries.now ≤ most_entries }
+    ensures { result ≡ sessions_of entries.now }
+{
+    let mut count = 0;
+    for entry in entries {
+        if is_session(&entry.change) {
+            count += 1;
+        }
+    }
+    count
+}
+
+fn is_session(change: &Change) -> bool
+    ensures { result ≡ is_session_of change.now }
+{
+    matches!(change, Change::Session { .. })
 }
 
 /// Whether a stream is there.

@@ -18,7 +18,7 @@ use Rattle.table_model.specs.Content.{rows_onto}
 use Rattle.table_model.specs.Facts.{kind_after, creates, commits, finalises, created_of, is_finalised, flushed_after, state_in}
 use Rattle.table_model.proofs.SourceLemmas.{kind_of-push, flushed_of-push, committed_of-push, end_of-push}
 use Rattle.write_streams.specs.Book.{unused, with_rows, with_flushed, with_finalised, with_committed}
-use Rattle.write_streams.specs.Stands.{IsAppend}
+use Rattle.write_streams.specs.Stands.{IsAppend, IsRead}
 
 -- the state of a stream after a change at a moment
 abbrev pub after : StreamRef → Change → ℤ → StreamState → StreamState
@@ -76,6 +76,8 @@ after-append on to count (change.Create number k) moment s is = absurd is
 after-append on to count (change.Flush name upto) moment s is = absurd is
 after-append on to count (change.Finalise name) moment s is = absurd is
 after-append on to count (change.Commit streams) moment s is = absurd is
+after-append on to count (change.Session number at pred fields roots) moment s is = absurd is
+after-append on to count (change.Split session node left right) moment s is = absurd is
 
 pub after-flush : (on to : StreamRef) (upto : ℕ) (moment : ℤ) (s : StreamState)
     → after on (change.Flush to upto) moment s ≡ (if is_one_stream on to then with_flushed upto s else s)
@@ -124,3 +126,12 @@ after-create on number k moment here = either (is_one_stream on (stream.Number n
         → ◌≡◌ {A = StreamState} (record { kind = if b then k else kind.Committed; created = if b then Some moment else None; committed = None; rows = 0 + 0; flushed = 0; finalised = false || false }) (unused k (Some moment))
     either false e = absurd (cc)
     either true e = refl
+
+pub after-read : (on : StreamRef) (c : Change) (moment : ℤ) (s : StreamState) → IsRead c → after on c moment s ≡ s
+after-read on (change.Session number at pred fields roots) moment s is = same_state refl refl refl (add-zero s.rows) refl (or_false s.finalised)
+after-read on (change.Split session node left right) moment s is = same_state refl refl refl (add-zero s.rows) refl (or_false s.finalised)
+after-read on (change.Append to offset rows bytes) moment s is = absurd is
+after-read on (change.Create number k) moment s is = absurd is
+after-read on (change.Flush to upto) moment s is = absurd is
+after-read on (change.Finalise to) moment s is = absurd is
+after-read on (change.Commit streams) moment s is = absurd is

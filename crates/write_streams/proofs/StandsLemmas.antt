@@ -20,9 +20,9 @@ use Rattle.table_model.specs.Facts.{has_stream, state_in, state_of}
 use Rattle.table_model.specs.Checks.{stream_errors}
 use Rattle.table_model.proofs.SourceLemmas.{one_stream, each_good, good_of}
 use Rattle.write_streams.specs.Book.{Book, find, unused, empty_book, Changes, with_rows, with_flushed, with_finalised, with_committed}
-use Rattle.write_streams.specs.Stands.{Stands, IsAppend}
+use Rattle.write_streams.specs.Stands.{Stands, IsAppend, IsRead, ReadsKeepBooks}
 use Rattle.write_streams.proofs.BookLemmas.{slice_get-push}
-use Rattle.write_streams.proofs.AfterLemmas.{after, state_in-push, streams_of-push, after-append, after-flush, after-finalise, after-commit, after-create, after-create-other}
+use Rattle.write_streams.proofs.AfterLemmas.{after, state_in-push, streams_of-push, after-append, after-flush, after-finalise, after-commit, after-create, after-create-other, after-read}
 
 pub Stands-empty : Stands empty_book []
 Stands-empty = record {
@@ -108,6 +108,8 @@ not_created on rows (change.Create number k) is = absurd is
 not_created on rows (change.Flush name upto) is = refl
 not_created on rows (change.Finalise name) is = refl
 not_created on rows (change.Commit streams) is = refl
+not_created on rows (change.Session number at pred fields roots) is = refl
+not_created on rows (change.Split session node left right) is = refl
 
 pub Stands-append : (old new : Book) (to : StreamRef) (rows : ℕ) → IsSome (find old to) → Changes old new (λ on. is_one_stream on to) (with_rows rows)
     → (history : History) (entry : Entry) → Stands old history → IsAppend to rows entry.change → Stands new (history ++ entry ∷ [])
@@ -144,6 +146,25 @@ Stands-committed old new streams i moment good passed changes =
       found = λ s. changes.found s ∙ ap (λ xs. option_map (λ state. if list_any (is_one_stream s) xs then with_committed moment state else state) (find old s)) all;
       count = changes.count;
     })
+
+-- A session or a split changes no stream.
+not_created-read : (c : Change) → IsRead c → is_create c ≡ false
+not_created-read (change.Session number at pred fields roots) is = refl
+not_created-read (change.Split session node left right) is = refl
+not_created-read (change.Append to offset rows bytes) is = refl
+not_created-read (change.Create number k) is = absurd is
+not_created-read (change.Flush to upto) is = refl
+not_created-read (change.Finalise to) is = refl
+not_created-read (change.Commit streams) is = refl
+
+pub Stands-read : ReadsKeepBooks
+Stands-read book history entry stands is =
+    Stands-changes book book history entry (λ on. false) (λ s. s) stands (record { found = λ on. same (find book on); count = refl }) (not_created-read entry.change is)
+    (λ on s. after-read on entry.change entry.moment s is) (λ number late. refl)
+  where
+    same : (found : Option StreamState) → found ≡ option_map (λ s. s) found
+    same None = refl
+    same (Some state) = refl
 
 -- A new stream.
 is_next : (n l : ℕ) → (n == l + 1) ≡ true → (nat_lt 0 n ≡ true) × ((n - 1 == l) ≡ true)

@@ -1,5 +1,6 @@
 -- A book stands for a history: it says of each stream what the history says.
-use Rattle.std.specs.Prelude.{◌≡◌, ℕ, ◌<◌, None, length}
+use Rattle.std.specs.Prelude.{◌≡◌, ℕ, ◌<◌, None, [], ◌∷◌, ◌++◌, length}
+use Rattle.table_model.specs.declared.entries.Entry.{Entry}
 use Rattle.table_model.specs.declared.entries.Change.{Change}
 use Rattle.table_model.specs.declared.entries.Change.TheVariants as change
 use Rattle.table_model.specs.declared.streams.StreamKind.TheVariants as kind
@@ -19,3 +20,13 @@ pub record Stands (book : Book) (history : History) : Type 0 where
 abbrev pub IsAppend : StreamRef → ℕ → Change → Type 0
 IsAppend on count (change.Append to offset rows bytes) = (to ≡ on) × (length rows ≡ count)
 IsAppend on count _ = ⊥
+
+-- a change begins a session or splits a node of one
+abbrev pub IsRead : Change → Type 0
+IsRead (change.Session number at pred fields roots) = Unit {0}
+IsRead (change.Split session node left right) = Unit {0}
+IsRead _ = ⊥
+
+-- a book that stands for a history stands for it with a session or a split more
+abbrev pub ReadsKeepBooks : Type 0
+ReadsKeepBooks = (book : Book) (history : History) (entry : Entry) → Stands book history → IsRead entry.change → Stands book (history ++ entry ∷ [])

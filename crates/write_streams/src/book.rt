@@ -10,7 +10,7 @@ ghost use Rattle.table_model.specs.History.{History};
 ghost use Rattle.table_model.specs.Checks.{append_check as append_check_of, finalise_check as finalise_check_of, flush_check as flush_check_of, stream_errors};
 ghost use Rattle.table_model.specs.Committing.{CommitChecked};
 ghost use Rattle.write_streams.specs.Book.{find, unused, empty_book, facts_check, Added, Changes, with_committed, with_finalised, with_flushed, with_rows};
-ghost use Rattle.write_streams.specs.Stands.{Stands, IsAppend};
+ghost use Rattle.write_streams.specs.Stands.{Stands, IsAppend, ReadsKeepBooks};
 
 use outside::Memory;
 use std::alloc::Global;
@@ -242,3 +242,9 @@ impl StreamBook {
         })
     }
 }
+
+/// Read sessions and their splits change no write stream: a book that stands for a history stands for it with such an
+/// entry more.
+pub fn reads_keep_books()
+    ensures { ReadsKeepBooks }
+{}

@@ -11,5 +11,5 @@
 
 mod book;
 
-pub use book::{StreamBook, StreamFacts};
+pub use book::{StreamBook, StreamFacts, reads_keep_books};
 pub use table_model::{FinalMove, FlushMove};

@@ -1,16 +1,7 @@
--- Each root is put behind those before it.
-use Rattle.std.proofs.Common.{arith}
-use Rattle.split_tree.proofs.Roots.{roots-push, IsSplitTree-made}
+-- Roots are a tree.
+use Rattle.split_tree.proofs.Roots.{IsSplitTree-made}
 use Rattle.split_tree.proofs.tree.Tree.new.Goals as goal
-
-pub loop-i-preserved : goal.loop-i-preserved
-loop-i-preserved c = (
-  roots-push c.args.at c.roots_of-roots.result c.loop-i.i c.loop-i.nodes.items c.push.new.self.items c.unsplit.result c.bound.result c.bound-in-loop-i.result
-      c.loop-i.invariant.0 c.in_ok-push.ensures.items c.unsplit.ensures c.bound.ensures c.bound-in-loop-i.ensures,
-  omega (arith, c.loop-i-test.true),
-)
 
 pub invariant_of-result : goal.invariant_of-result
 invariant_of-result c =
-    IsSplitTree-made c.args.at c.roots_of-roots.result c.loop-i.i c.loop-i.nodes.items c.roots_of-roots.ensures.some c.roots_of-roots.ensures.few c.loop-i.invariant.0 c.loop-i.invariant.1
-    (omega (arith, c.loop-i-test.false))
+    IsSplitTree-made c.args.at c.roots_of-roots.result c.in_ok-nodes.nodes.items c.roots_of-roots.ensures.some c.roots_of-roots.ensures.few c.in_ok-nodes.ensures

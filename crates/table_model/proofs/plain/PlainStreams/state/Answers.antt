@@ -1,6 +1,6 @@
 -- A stream has no more rows than all rows weigh.
 use Rattle.std.proofs.Common.{length, arith}
-use Rattle.table_model.proofs.PlainLemmas.{end_of-le-weight}
+use Rattle.table_model.proofs.WeightLemmas.{end_of-le-weight}
 use Rattle.table_model.proofs.plain.PlainStreams.state.Goals as goal
 
 pub end-requires : goal.end-requires
