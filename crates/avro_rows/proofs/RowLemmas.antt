@@ -79,9 +79,9 @@ pub column-found : (columns : List Column) (numbers : List ℕ) (i : ℕ) (colum
 column-found columns numbers i column h within e =
     slice_get-get_or columns (get_or numbers i 0) column (All-get_or (λ number. number < length columns) numbers i 0 h within) ∙ ap Some (sym e)
 
-pub projected-drop : (columns : List Column) (numbers : List ℕ) (i : ℕ) (column : Column) → i < length numbers → slice_get columns (get_or numbers i 0) ≡ Some column →
-    projected (drop i numbers) columns ≡ column ∷ projected (drop (i + 1) numbers) columns
-projected-drop columns numbers i column h found = rw (add-one, drop-cons numbers i 0, found) refl
+pub projected-drop : {A : Type 0} (items : List A) (numbers : List ℕ) (i : ℕ) (item : A) → i < length numbers → slice_get items (get_or numbers i 0) ≡ Some item →
+    projected (drop i numbers) items ≡ item ∷ projected (drop (i + 1) numbers) items
+projected-drop items numbers i item h found = rw (add-one, drop-cons numbers i 0, found) refl
 
 projected-take : (columns : List Column) (numbers : List ℕ) (i : ℕ) (column : Column) → i < length numbers → slice_get columns (get_or numbers i 0) ≡ Some column →
     projected (take (i + 1) numbers) columns ≡ projected (take i numbers) columns ++ column ∷ []
@@ -132,6 +132,24 @@ push-cell columns numbers cells i column x out new whole h count within e f put 
     let before : out ++ (cell_datum column.mode x ++ datum_of (projected (drop (i + 1) numbers) columns) (drop (i + 1) cells)) ≡ whole = rw (chosen, left) at is in
     ap (λ s. s ++ datum_of (projected (drop (i + 1) numbers) columns) (drop (i + 1) cells)) put ∙
     append_assoc out (cell_datum column.mode x) (datum_of (projected (drop (i + 1) numbers) columns) (drop (i + 1) cells)) ∙ before
+
+pub push-chosen : (columns : List Column) (numbers : List ℕ) (cells : List Cell) (i : ℕ) (column : Column) (x : Cell) (out new whole : List ℕ) →
+    i < length numbers → length columns ≡ length cells → All (λ number. number < length columns) numbers → column ≡ get_or columns (get_or numbers i 0) column →
+    x ≡ get_or cells (get_or numbers i 0) x → new ≡ out ++ cell_datum column.mode x →
+    out ++ datum_of (projected (drop i numbers) columns) (projected (drop i numbers) cells) ≡ whole →
+    new ++ datum_of (projected (drop (i + 1) numbers) columns) (projected (drop (i + 1) numbers) cells) ≡ whole
+push-chosen columns numbers cells i column x out new whole h count within e f put is =
+    let low : get_or numbers i 0 < length columns = All-get_or (λ number. number < length columns) numbers i 0 h within in
+    let cell : slice_get cells (get_or numbers i 0) ≡ Some x = slice_get-get_or cells (get_or numbers i 0) x (omega arith) ∙ ap Some (sym f) in
+    let chosen : projected (drop i numbers) columns ≡ column ∷ projected (drop (i + 1) numbers) columns = projected-drop columns numbers i column h (column-found columns numbers i column h within e) in
+    let left : projected (drop i numbers) cells ≡ x ∷ projected (drop (i + 1) numbers) cells = projected-drop cells numbers i x h cell in
+    let before : out ++ (cell_datum column.mode x ++ datum_of (projected (drop (i + 1) numbers) columns) (projected (drop (i + 1) numbers) cells)) ≡ whole = rw (chosen, left) at is in
+    ap (λ s. s ++ datum_of (projected (drop (i + 1) numbers) columns) (projected (drop (i + 1) numbers) cells)) put ∙
+    append_assoc out (cell_datum column.mode x) (datum_of (projected (drop (i + 1) numbers) columns) (projected (drop (i + 1) numbers) cells)) ∙ before
+
+-- a row that fits has a cell for each column
+pub length-row : (columns : List Column) (row : List Cell) → Fits columns row → length columns ≡ length row
+length-row columns row fits = eqb-true (length columns) (length row) (and_parts _ _ fits).0
 
 -- Reading one cell more.
 

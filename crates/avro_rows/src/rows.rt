@@ -73,6 +73,40 @@ pub fn encode_row(
     Ok(Blob::from_vec(out))
 }
 
+/// Writes the datum of a row's chosen cells at the end. The row has a cell for each column of the schema, and is not
+/// copied.
+pub fn push_chosen(
+    out: &mut Vec<u8>,
+    schema: &Schema,
+    fields: &Fields,
+    row: &Row,
+) -> Result<(), Memory>
+    requires made { IsMadeFor schema.now fields.now }
+    requires fits { Fits schema.now row.now }
+    ensures { OnOk result (out.new.items ≡ out.old.items ++ datum_of (projected fields.now schema.now) (projected fields.now row.now)) }
+{
+    push_cells_at(out, schema.columns(), fields.numbers(), row.cells())
+}
+
+/// Writes the cells of these numbers.
+fn push_cells_at(
+    out: &mut Vec<u8>,
+    columns: &[Column],
+    numbers: &[u32],
+    cells: &[Cell],
+) -> Result<(), Memory>
+    requires within { All (λ number. number < length columns.now) numbers.now }
+    requires count { length columns.now ≡ length cells.now }
+    ensures { OnOk result (out.new.items ≡ out.old.items ++ datum_of (projected numbers.now columns.now) (projected numbers.now cells.now)) }
+{
+    for number in numbers {
+        let place = *number as usize;
+        let column = &columns[place];
+        push_cell(out, column.mode, &cells[place])?;
+    }
+    Ok(())
+}
+
 /// The most bytes of a cell, but for its text or bytes: a branch and a number.
 const CELL_ROOM: usize = 11;
 

@@ -1,12 +1,14 @@
 -- The rows of an interval, cut in two or followed by others.
 use Rattle.std.proofs.Common.{◌≡◌, ℕ, ◌+◌, ◌-◌, ◌≤◌, List, ◌++◌, length, map, take, drop, ap, sym, ◌∙◌, arith}
 use Rattle.std.specs.Prelude.{filter}
-use Rattle.std.proofs.lemmas.List.{map-append, take-append-drop, take-take, drop-take, drop-drop, drop-append-le, take-append-le, length-drop}
+use Rattle.std.proofs.lemmas.List.{map-append, take-append-drop, take-take, drop-take, drop-drop, drop-append-le, drop-map, take-append-le, length-drop}
 use Rattle.std.proofs.lemmas.List.Elements.{filter-append}
 use Rattle.column_types.specs.declared.cell.Cell.{Cell}
 use Rattle.column_types.specs.declared.predicate.Pred.{Pred}
 use Rattle.column_types.specs.Fields.{projected}
-use Rattle.read_cursor.specs.Lease.{between, keeps, shown}
+use Rattle.row_groups.specs.Places.{joined}
+use Rattle.read_cursor.specs.Lease.{Leased, between, keeps, matching, shown}
+use Rattle.read_cursor.specs.Reading.{rows_left}
 
 take_parts : {A : Type 0} (n k : ℕ) (items : List A) → take n items ++ take k (drop n items) ≡ take (n + k) items
 take_parts n k items =
@@ -33,3 +35,6 @@ shown_later pred fields lo hi rows more low high =
     let behind : drop lo (rows ++ more) ≡ drop lo rows ++ more = drop-append-le lo rows more (omega arith) in
     let front : take (hi - lo) (drop lo rows ++ more) ≡ take (hi - lo) (drop lo rows) = take-append-le (hi - lo) (drop lo rows) more (omega (arith, length-drop lo rows)) in
     ap (λ (items : List (List Cell)). map (projected fields) (filter (keeps pred) items)) (ap (take (hi - lo)) behind ∙ front)
+
+pub shown_behind : (lease : Leased) (at : ℕ) → rows_left (record { lease = lease; at = at }) ≡ drop at (shown lease.pred lease.fields lease.lo lease.hi (joined lease.groups))
+shown_behind lease at = sym (drop-map (projected lease.fields) at (matching lease))

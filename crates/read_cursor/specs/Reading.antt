@@ -10,6 +10,7 @@ use Rattle.read_cursor.specs.declared.found.Chunk.{Chunk}
 use Rattle.read_cursor.specs.declared.found.Chunk.TheVariants as chunk
 use Rattle.read_cursor.specs.declared.found.TheConstants.{MAX_CHUNK_ROWS}
 use Rattle.read_cursor.specs.declared.walk.Walk.{Walk}
+use Rattle.read_cursor.specs.declared.cursor.Mark.{Mark}
 use Rattle.read_cursor.specs.Lease.{Leased, between, keeps, matching}
 
 -- how many matching rows were given or are to be skipped
@@ -53,6 +54,13 @@ pub record Walks (lease : Leased) (position : ℕ) (place : Place) (passed : ℕ
   pub high : position ≤ lease.hi
   pub here : position < lease.hi → IsPlace lease.groups position place.group place.place
   pub counted : passed ≡ length (filter (keeps lease.pred) (between lease.lo position (joined lease.groups)))
+
+-- A mark was made in this lease, where so many matching rows were given or are to be skipped.
+abbrev pub StandsIn : Leased → Mark → Type 0
+StandsIn lease mark = Walks lease mark.walk.position mark.walk.place mark.walk.passed
+
+abbrev pub mark_at : Mark → ℕ
+mark_at mark = mark.walk.passed + mark.walk.skip
 
 abbrev pub reading_of : Leased → Walk → Reading
 reading_of lease walk = record { lease = lease; at = walk.passed + walk.skip }

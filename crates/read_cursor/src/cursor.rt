@@ -4,7 +4,7 @@ ghost use Rattle.std.specs.Prelude.{◌≡◌, ◌<◌, List, length, IfOk, OnEr
 ghost use Rattle.std.specs.List.{slice_index_or};
 ghost use Rattle.column_types.specs.declared.cell.Cell.{Cell};
 ghost use Rattle.row_groups.specs.Places.{group_at};
-ghost use Rattle.read_cursor.specs.Reading.{Finds, Gives};
+ghost use Rattle.read_cursor.specs.Reading.{Finds, Gives, StandsIn, mark_at};
 
 use crate::found::{Chunk, Found, Place};
 use crate::lease::Lease;
@@ -19,6 +19,12 @@ use std::marker::Model;
 #[derive(Drop)]
 pub struct Cursor {
     lease: Lease,
+    walk: Walk,
+}
+
+/// Where a cursor stood.
+#[derive(Clone, Copy)]
+pub struct Mark {
     walk: Walk,
 }
 
@@ -86,5 +92,21 @@ impl Cursor {
         ensures { (other : List Cell) → result.now ≡ slice_index_or (group_at self.now.lease.groups place.group) place.place other }
     {
         self.lease.spine().row(place.group, place.place)
+    }
+
+    /// Where the cursor stands.
+    pub fn mark(&self) -> Mark
+        ensures stands { StandsIn self.now.lease result }
+        ensures at { mark_at result ≡ self.now.at }
+    {
+        Mark { walk: self.walk }
+    }
+
+    /// Goes to where it, or another cursor of its lease, stood. It asks for no memory.
+    pub fn go_to(&mut self, mark: Mark)
+        requires { StandsIn self.old.lease mark }
+        ensures { self.new ≡ record { lease = self.old.lease; at = mark_at mark } }
+    {
+        self.walk = mark.walk;
     }
 }

@@ -1,3 +1,4 @@
 pub mod StartLemmas
 pub mod PlaceLemmas
 pub mod KeptLemmas
+pub mod SliceLemmas

@@ -1,3 +1,4 @@
+pub mod Slices
 pub mod Places
 pub mod Starts
 pub mod Kept

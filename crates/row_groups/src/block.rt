@@ -1,10 +1,12 @@
 //! Groups of rows, and blocks of groups.
 
-ghost use Rattle.std.specs.Prelude.{◌≡◌, ◌+◌, ◌<◌, [], ◌∷◌, ◌++◌, length, IfOk, OnOk, OnErr};
+ghost use Rattle.std.specs.Prelude.{◌≡◌, ◌+◌, ◌<◌, [], ◌∷◌, ◌++◌, length, take, IfOk, OnOk, OnErr};
 ghost use Rattle.std.specs.List.{slice_index_or};
+ghost use Rattle.std.specs.Vec.{vec_len, vec_capacity};
 ghost use Rattle.row_groups.specs.Starts.{IsAmong, Covers};
 ghost use Rattle.row_groups.specs.Kept.{PlacedGroup, group_start, group_size, block_start, block_size, all_rows, Keeps};
 
+use crate::slice::Slice;
 use column_types::Row;
 use outside::Memory;
 use std::alloc::Global;
@@ -19,26 +21,23 @@ pub const BLOCK_GROUPS: usize = 256;
 #[derive(Drop)]
 pub(crate) struct Group {
     start: u32,
-    rows: Arc<Vec<Row>>,
+    slice: Slice,
 }
 
 impl Model for Group {
-    ghost use Rattle.std.specs.Arc.{arc_value};
     ghost use Rattle.row_groups.specs.Kept.{PlacedGroup};
 
     ghost Value = { PlacedGroup };
 
-    ghost view = { λ g. record { start = g.start; rows = (arc_value g.rows).items } };
+    ghost view = { λ g. record { start = g.start; rows = g.slice } };
 }
 
 impl Group {
-    ghost use Rattle.std.specs.Arc.{arc_value};
-
     /// The group of these rows, which start at this position.
-    pub(crate) fn of(start: u32, rows: Arc<Vec<Row>>) -> Group
-        ensures { result ≡ record { start = start; rows = (arc_value rows).items } }
+    pub(crate) fn of(start: u32, slice: Slice) -> Group
+        ensures { result ≡ record { start = start; rows = slice } }
     {
-        Group { start, rows }
+        Group { start, slice }
     }
 
     /// The position of its first row.
@@ -52,7 +51,7 @@ impl Group {
     pub(crate) fn rows(&self) -> &[Row]
         ensures { result.now ≡ self.now.rows }
     {
-        self.rows.as_slice()
+        self.slice.rows()
     }
 
     /// The same group, without a copy of its rows.
@@ -61,7 +60,7 @@ impl Group {
     {
         Ok(Group {
             start: self.start,
-            rows: Arc::try_clone(&self.rows)?,
+            slice: self.slice.share()?,
         })
     }
 }
@@ -140,6 +139,7 @@ fn seal(
 ) -> Result<(), Memory>
     ensures full { OnOk result (full.new.items ≡ full.old.items ++ record { start = start; groups = last.old.items } ∷ []) }
     ensures last { OnOk result (last.new.items ≡ []) }
+    ensures spare { OnOk result (vec_len last.new < vec_capacity last.new) }
     ensures full_err { OnErr result (full.new.items ≡ full.old.items) }
     ensures last_err { OnErr result (last.new.items ≡ last.old.items) }
 {
@@ -170,11 +170,14 @@ pub(crate) fn make_room(
     requires { Keeps full.old.items last.old.items last_start len }
     ensures keeps { IfOk result (λ start. Keeps full.new.items last.new.items start len) }
     ensures room { OnOk result (length last.new.items < BLOCK_GROUPS) }
+    ensures spare { OnOk result (vec_len last.new < vec_capacity last.new) }
+    ensures front { take (length full.old.items) full.new.items ≡ full.old.items }
     ensures same { OnOk result (all_rows full.new.items last.new.items ≡ all_rows full.old.items last.old.items) }
     ensures full { OnErr result (full.new.items ≡ full.old.items) }
     ensures last { OnErr result (last.new.items ≡ last.old.items) }
 {
     if last.len() < BLOCK_GROUPS {
+        last.reserve(1)?;
         return Ok(last_start);
     }
     seal(alloc, full, last_start, last)?;

@@ -4,6 +4,7 @@ ghost use Rattle.std.specs.Prelude.{◌≡◌, ◌+◌, ◌<◌, ◌≤◌, ◌^
 ghost use Rattle.std.specs.Arc.{arc_value};
 ghost use Rattle.row_groups.specs.Places.{joined, IsPlace};
 
+use crate::slice::{Rows, Slice};
 use crate::spine::Spine;
 use column_types::Row;
 use outside::Memory;
@@ -45,16 +46,48 @@ impl Groups {
         ensures ok { OnOk result (self.new ≡ self.old ++ rows.items ∷ []) }
         ensures err { OnErr result (self.new ≡ self.old) }
     {
-        let rows = Arc::new(alloc, rows)?;
-        match Arc::get_mut(&mut self.spine) {
-            Some(alone) => alone.add(alloc, rows),
-            None => {
-                let mut next = self.spine.share(alloc)?;
-                next.add(alloc, rows)?;
-                self.spine = Arc::new(alloc, next)?;
-                Ok(())
-            }
+        let rows = Arc::new(alloc, Rows::from_vec(rows))?;
+        let Some(slice) = Slice::whole(rows) else {
+            unreachable!()
+        };
+        self.push_slice(alloc, slice)
+    }
+
+    /// Adds a slice as a group, like [`push`](Groups::push).
+    pub fn push_slice(&mut self, alloc: Global, slice: Slice) -> Result<(), Memory>
+        requires { length (joined self.old) + length slice < 2 ^ 32 }
+        ensures ok { OnOk result (self.new ≡ self.old ++ slice ∷ []) }
+        ensures err { OnErr result (self.new ≡ self.old) }
+    {
+        if let Some(alone) = Arc::get_mut(&mut self.spine) {
+            return alone.add(alloc, slice);
         }
+        let mut next = self.spine.share(alloc)?;
+        next.add(alloc, slice)?;
+        self.hold(alloc, next)
+    }
+
+    /// Adds slices in their order, each as a group, like [`push`](Groups::push): all of them, or none at want of memory.
+    pub fn push_all(&mut self, alloc: Global, slices: Vec<Slice>) -> Result<(), Memory>
+        requires { length (joined self.old) + length (joined slices.items) < 2 ^ 32 }
+        ensures ok { OnOk result (self.new ≡ self.old ++ slices.items) }
+        ensures err { OnErr result (self.new ≡ self.old) }
+    {
+        if let Some(alone) = Arc::get_mut(&mut self.spine) {
+            return alone.add_all(alloc, slices);
+        }
+        let mut next = self.spine.share(alloc)?;
+        next.add_all(alloc, slices)?;
+        self.hold(alloc, next)
+    }
+
+    // Goes on with another spine.
+    fn hold(&mut self, alloc: Global, next: Spine) -> Result<(), Memory>
+        ensures ok { OnOk result (self.new ≡ next) }
+        ensures err { OnErr result (self.new ≡ self.old) }
+    {
+        self.spine = Arc::new(alloc, next)?;
+        Ok(())
     }
 
     /// How many rows there are.

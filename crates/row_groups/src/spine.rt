@@ -1,14 +1,15 @@
 //! All groups so far.
 
 ghost use Rattle.std.specs.Prelude.{◌≡◌, ◌+◌, ◌<◌, ◌≤◌, ◌^◌, List, [], ◌∷◌, ◌++◌, length, IfOk, OnOk, OnErr, MatchOption};
-ghost use Rattle.std.specs.Arc.{arc_value};
 ghost use Rattle.std.specs.List.{slice_index_or, AllByRecursion};
 ghost use Rattle.column_types.specs.declared.cell.Cell.{Cell};
 ghost use Rattle.row_groups.specs.Places.{joined, group_at, IsPlace, HasRows};
 
 use crate::block::{
-    BLOCK_GROUPS, Block, Group, block_with, make_room, place_with, share_blocks, share_groups,
+    BLOCK_GROUPS, Block, Group, block_with, place_with, share_blocks, share_groups,
 };
+use crate::fill::{Ends, add_group, add_groups};
+use crate::slice::Slice;
 use column_types::Row;
 use outside::Memory;
 use std::alloc::Global;
@@ -105,18 +106,61 @@ impl Spine {
     }
 
     /// Adds a group behind the others. Want of memory leaves the spine as it was.
-    pub(crate) fn add(&mut self, alloc: Global, rows: Arc<Vec<Row>>) -> Result<(), Memory>
-        requires some { 0 < length (arc_value rows).items }
-        requires room { length (joined self.old) + length (arc_value rows).items < 2 ^ 32 }
-        ensures ok { OnOk result (self.new ≡ self.old ++ (arc_value rows).items ∷ []) }
+    pub(crate) fn add(&mut self, alloc: Global, slice: Slice) -> Result<(), Memory>
+        requires { length (joined self.old) + length slice < 2 ^ 32 }
+        ensures ok { OnOk result (self.new ≡ self.old ++ slice ∷ []) }
         ensures err { OnErr result (self.new ≡ self.old) }
     {
-        let (start, len) = (self.last_start, self.len);
-        self.last_start = make_room(alloc, &mut self.full, &mut self.last, start, len)?;
-        let count = rows.len() as u32;
-        self.last.push(Group::of(self.len, rows))?;
-        self.len += count;
+        let ends = Ends {
+            last_start: self.last_start,
+            len: self.len,
+        };
+        let after = add_group(alloc, &mut self.full, &mut self.last, ends, slice)?;
+        self.last_start = after.last_start;
+        self.len = after.len;
         Ok(())
+    }
+
+    /// Adds groups behind the others, in their order. Want of memory leaves the spine as it was.
+    pub(crate) fn add_all(&mut self, alloc: Global, slices: Vec<Slice>) -> Result<(), Memory>
+        requires { length (joined self.old) + length (joined slices.items) < 2 ^ 32 }
+        ensures ok { OnOk result (self.new ≡ self.old ++ slices.items) }
+        ensures err { OnErr result (self.new ≡ self.old) }
+    {
+        let mut slices = slices;
+        if slices.len() != 1 {
+            return self.add_several(alloc, slices);
+        }
+        match slices.pop() {
+            Some(slice) => self.add(alloc, slice),
+            None => Ok(()),
+        }
+    }
+
+    // Adds any number of groups. It holds the last block as it was until all of them are there.
+    fn add_several(&mut self, alloc: Global, slices: Vec<Slice>) -> Result<(), Memory>
+        requires { length (joined self.old) + length (joined slices.items) < 2 ^ 32 }
+        ensures ok { OnOk result (self.new ≡ self.old ++ slices.items) }
+        ensures err { OnErr result (self.new ≡ self.old) }
+    {
+        let blocks = self.full.len();
+        let ends = Ends {
+            last_start: self.last_start,
+            len: self.len,
+        };
+        let before = share_groups(alloc, self.last.as_slice())?;
+        match add_groups(alloc, &mut self.full, &mut self.last, ends, slices) {
+            Ok(after) => {
+                self.last_start = after.last_start;
+                self.len = after.len;
+                Ok(())
+            }
+            Err(memory) => {
+                self.full.truncate(blocks);
+                self.last = before;
+                Err(memory)
+            }
+        }
     }
 
     /// A spine of the same groups, without a copy of a row.

@@ -1,0 +1,4 @@
+pub mod Cut
+pub mod Responses
+pub mod Batch
+pub mod Body
