@@ -1,8 +1,8 @@
 -- What a pass shows before and after a turn.
-use Rattle.std.proofs.Common.{◌≡◌, ◌⊎◌, ℕ, ℤ, ◌+◌, max, ◌||◌, Bool, true, false, true≢false, List, [], ◌∷◌, ◌++◌, length, Option, Some, None, Result, Ok, Err, refl, sym, ap, ◌∙◌, subst, inl, inr, arith, length-append}
+use Rattle.std.proofs.Common.{◌≡◌, ◌⊎◌, ℕ, ℤ, ◌+◌, max, ◌||◌, Bool, true, false, true≢false, List, [], ◌∷◌, ◌++◌, length, Option, Some, None, Result, Ok, Err, IfOk, refl, sym, ap, ◌∙◌, subst, inl, inr, arith, length-append}
 use Rattle.outside.specs.declared.wants.Memory.{Memory}
 use Rattle.turn_table.specs.Turn.{Steps}
-use Rattle.turn_table.specs.View.{View, Reaches, ActsBy, Joins, seeing}
+use Rattle.turn_table.specs.View.{View, Reaches, ActsBy, LooksBy, Joins, seeing}
 use Rattle.turn_table.specs.Rule.{Front}
 use Rattle.turn_table.proofs.ListLemmas.{none_more}
 
@@ -17,6 +17,12 @@ pub acts : {E F C R : Type 0} (caller_of : E → ℕ) (allows : F → List E →
 acts caller_of allows old after base new command now (Ok reply) reached (added, allowed, carries, is) then =
     (base, added, reached, allowed, carries, then ∙ ap (λ history. seeing old history) is)
 acts caller_of allows old after base new command now (Err memory) reached is then = (base, reached, then ∙ ap (λ history. seeing old history) is)
+
+-- where the machine looks at what the pass reaches, the pass looks
+pub looked : {E F K L : Type 0} (caller_of : E → ℕ) (looks : F → List E → K → L → Type 0) (old after : View E F) (base : List E) (key : K) (result : Result L Memory)
+    → Reaches caller_of old base → IfOk result (looks old.fixed base key) → after ≡ seeing old base → LooksBy caller_of looks old key result after
+looked caller_of looks old after base key (Ok look) reached allowed then = (base, reached, allowed, then)
+looked caller_of looks old after base key (Err memory) reached allowed then = (base, reached, then)
 
 -- a step adds an entry of the caller's or none, as its length says
 pub grows : {E C R : Type 0} (caller_of : E → ℕ) (allows : List E → ℕ → C → ℤ → R → Option E → Type 0) (base new : List E) (caller : ℕ) (command : C) (now : ℤ) (result : Result R Memory) (added first : ℕ)

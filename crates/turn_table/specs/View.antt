@@ -1,4 +1,4 @@
--- What a pass to a turn table shows, and the histories at which its commands are answered.
+-- What a pass to a turn table shows, and the histories at which its commands and its looks are answered.
 use Rattle.std.specs.Prelude.{◌≡◌, ◌⊎◌, ℕ, ℤ, ◌+◌, ◌≤◌, max, ◌==◌, Bool, true, false, List, [], ◌++◌, count_by, Option, Result, Ok, Err}
 use Rattle.atomic_table.specs.Seated.{TableId}
 use Rattle.outside.specs.declared.wants.Memory.{Memory}
@@ -48,6 +48,14 @@ ActsBy {E} caller_of allows old command now (Ok reply) new =
     (point : List E) × (added : Option E) × Reaches caller_of old point × allows old.fixed point old.number command now reply added × Carries caller_of old.number added
     × (new ≡ seeing old (with_entry point added))
 ActsBy {E} caller_of allows old command now (Err memory) new =
+    (point : List E) × Reaches caller_of old point × (new ≡ seeing old point)
+
+-- A look is one that is allowed at a history that the pass reaches, and the pass has then seen that history. At want of
+-- memory it has seen such a history too.
+abbrev pub LooksBy : {E F K L : Type 0} → (E → ℕ) → (F → List E → K → L → Type 0) → View E F → K → Result L Memory → View E F → Type 0
+LooksBy {E} caller_of looks old key (Ok look) new =
+    (point : List E) × Reaches caller_of old point × looks old.fixed point key look × (new ≡ seeing old point)
+LooksBy {E} caller_of looks old key (Err memory) new =
     (point : List E) × Reaches caller_of old point × (new ≡ seeing old point)
 
 -- A pass becomes two. The new one has a number that no entry carries and that is at least the old bound, and has seen what

@@ -3,7 +3,7 @@
 ghost use Rattle.std.specs.Prelude.{◌≡◌, ◌<◌, ◌≤ℤ◌, [], IfOk, OnErr};
 ghost use Rattle.turn_table.specs.declared.machine.TheConstants.{LATEST_READING};
 ghost use Rattle.turn_table.specs.Turn.{IsLegal};
-ghost use Rattle.turn_table.specs.View.{IsOf, Reaches, ActsBy, Splits, Joins, first_pass};
+ghost use Rattle.turn_table.specs.View.{IsOf, Reaches, ActsBy, LooksBy, Splits, Joins, first_pass};
 
 use crate::Machine;
 use crate::plays::{Cut, LearnBoth, LearnFirst, Merge};
@@ -117,6 +117,31 @@ impl<M: Machine> Turn<M> {
         let told = machine.step(alloc, number, command, now);
         let added = machine.entries() - before;
         leave(top, &mut seat, machine, added);
+        let pass = Pass { number, seat };
+        (pass, told)
+    }
+
+    /// Takes a turn, in which the machine tells of its history what the key asks for. No entry is added. It waits for its
+    /// turn.
+    ///
+    /// The look is one that is allowed at a history that begins with all that the pass had seen, and which the pass then
+    /// has seen. At want of memory it has seen such a history too. Where the pass is alone, that history is exactly what
+    /// it had seen, and it stays alone.
+    pub fn look<R: Wait>(
+        &self,
+        rt: &R,
+        pass: Pass<M>,
+        key: &M::Key,
+    ) -> (Pass<M>, Result<M::Look, Memory>)
+        requires theirs { IsOf self.now pass }
+        ensures looks { LooksBy M.caller_of M.looks pass key.now result.1 result.0 }
+        ensures theirs { IsOf self.now result.0 }
+    {
+        let Pass { number, mut seat } = pass;
+        let top = &self.table.shared;
+        let machine = enter(rt, top, &mut seat);
+        let told = machine.look(key);
+        leave(top, &mut seat, machine, 0);
         let pass = Pass { number, seat };
         (pass, told)
     }
