@@ -1,4 +1,10 @@
-mod ShownLemmas
+mod QueueLemmas
+mod WaitingLemmas
+mod HiddenLemmas
+mod MovedLemmas
+mod StoredLemmas
+mod ChangeLemmas
 mod AddLemmas
+mod LookLemmas
 mod StepLemmas
 mod MachineLemmas

@@ -1,11 +1,12 @@
 -- What a history allows the machine is what a table accepts.
-use Rattle.std.proofs.Common.{◌≡◌, List, [], ◌∷◌, ◌++◌, length, None, Some, refl, sym, ap, ◌∙◌}
+use Rattle.std.proofs.Common.{◌≡◌, List, [], ◌∷◌, ◌++◌, length, Some, refl, sym, ap, ◌∙◌}
 use Rattle.column_types.specs.declared.column.Column.{Column}
 use Rattle.table_model.specs.declared.entries.Entry.{Entry}
 use Rattle.table_model.specs.declared.replies.Answer.{Answer}
 use Rattle.table_model.specs.declared.replies.Answer.TheVariants.{Accept, Same, Refuse}
 use Rattle.table_model.specs.History.{History}
-use Rattle.table_model.specs.Facts.{facts_of, state_of}
+use Rattle.table_model.specs.Facts.{facts_of}
+use Rattle.table_model.specs.Look.{look_of}
 use Rattle.table_model.specs.Answer.{answer_of}
 use Rattle.table_model.specs.Legal.{Takes, IsAccepted, EachIsAccepted}
 use Rattle.table_model.specs.Table.{reply_of}
@@ -22,7 +23,7 @@ accepted columns before entry allowed =
         → IsAccepted columns before entry
     by_answer (Accept other told) e added =
         let same : other ≡ entry = cc in
-        let made = answer_by-Accept (facts_of (length columns) before allowed.caller) (λ on. state_of before on) allowed.command allowed.now other told e in
+        let made = answer_by-Accept (facts_of (length columns) before allowed.caller) (look_of before) allowed.command allowed.now other told e in
         let caller : entry.caller ≡ allowed.caller = ap (λ x. x.caller) (sym same) ∙ made.caller in
         record {
           asked = allowed.command;

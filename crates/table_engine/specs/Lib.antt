@@ -1,5 +1,10 @@
 pub mod Callers
+pub mod Kept
 pub mod Streams
+pub mod Waiting
+pub mod Stored
+pub mod Changes
 pub mod Keeps
+pub mod Looks
 pub mod Turns
 pub mod Laws

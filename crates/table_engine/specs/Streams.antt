@@ -1,5 +1,5 @@
--- What a change does to the streams and to the visible rows, by what is kept of the streams.
-use Rattle.std.specs.Prelude.{◌≡◌, ℕ, ◌+◌, ◌-◌, ◌<◌, ◌^◌, Bool, ◌||◌, Option, None, Some, List, [], length, sum_by, if◌then◌else◌, IsSome, IfSome}
+-- What is kept of a stream, and which changes can be made to the streams.
+use Rattle.std.specs.Prelude.{◌≡◌, ℕ, ◌+◌, ◌<◌, ◌^◌, Bool, ◌||◌, Option, None, Some, [], length, IsSome, IfSome}
 use Rattle.table_model.specs.declared.entries.Change.{Change}
 use Rattle.table_model.specs.declared.entries.Change.TheVariants as change
 use Rattle.table_model.specs.declared.streams.StreamRef.{StreamRef}
@@ -13,20 +13,9 @@ abbrev pub at_once : StreamRef → Option StreamState → Bool
 at_once on None = is_default on
 at_once on (Some state) = is_default on || is_committed_kind state.kind
 
-abbrev pub rows_in : Option StreamState → ℕ
-rows_in None = 0
-rows_in (Some state) = state.rows
-
 abbrev pub flushed_in : Option StreamState → ℕ
 flushed_in None = 0
 flushed_in (Some state) = state.flushed
-
--- how many rows a change makes visible
-abbrev pub shown_count : (StreamRef → Option StreamState) → Change → ℕ
-shown_count look (change.Append on offset rows bytes) = if at_once on (look on) then length rows else 0
-shown_count look (change.Flush on upto) = upto - flushed_in (look on)
-shown_count look (change.Commit streams) = sum_by (λ on. rows_in (look on)) streams
-shown_count look _ = 0
 
 -- A change can be made to the streams of a book: the next number is created, or the streams are there.
 abbrev pub CanChange : Book → Change → Type 0
@@ -35,3 +24,5 @@ CanChange book (change.Append on offset rows bytes) = IsSome (find book on) × I
 CanChange book (change.Flush on upto) = IsSome (find book on)
 CanChange book (change.Finalise on) = IsSome (find book on)
 CanChange book (change.Commit streams) = stream_errors (find book) streams ≡ []
+CanChange book (change.Session number at pred fields roots) = ⊥
+CanChange book (change.Split session node left right) = ⊥

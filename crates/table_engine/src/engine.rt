@@ -1,22 +1,32 @@
 //! The table that keeps what its answers ask.
 
 ghost use Rattle.std.specs.Prelude.{◌≡◌, ◌≤ℤ◌, [], ◌∷◌, ◌++◌, length, IfOk, OnOk, OnErr};
+ghost use Rattle.std.specs.Arc.{arc_value};
+ghost use Rattle.row_groups.specs.Places.{joined};
 ghost use Rattle.table_model.specs.declared.limits.TheConstants.{LATEST_READING};
 ghost use Rattle.table_model.specs.Facts.{facts_of};
 ghost use Rattle.table_model.specs.Legal.{Takes};
 ghost use Rattle.table_model.specs.Table.{IsWithin, Stepped, Taken};
 ghost use Rattle.table_model.specs.Visible.{visible_of};
 ghost use Rattle.table_engine.specs.Keeps.{CanAdd, CanTake};
+ghost use Rattle.table_engine.specs.Looks.{Looks};
 
 use crate::callers::Callers;
+use crate::changes::{change_all, note_rows};
 use crate::copies::copy_entries;
-use crate::streams::{change_streams, rows_shown};
+use crate::kept::KeptEntry;
+use crate::looks::{Held, Key, hold};
+use crate::waiting::Waiting;
 use column_types::Schema;
 use outside::Memory;
+use read_sessions::{SessionBook, Snapshots};
+use row_groups::{Groups, Spine};
 use std::alloc::Global;
 use std::marker::Model;
+use std::sync::Arc;
 use table_model::{
-    Answer, Command, Entry, Facts, Reply, StreamRef, StreamState, Streams, answer_to, size_added,
+    Answer, Command, Entry, Facts, ReadNode, Reply, Sessions, StreamRef, StreamState, Streams,
+    answer_to, size_added,
 };
 use turn_table::Machine;
 use write_streams::StreamBook;
@@ -25,18 +35,25 @@ use write_streams::StreamBook;
 #[derive(Drop)]
 pub struct Engine {
     schema: Schema,
-    entries: Vec<Entry>,
+    entries: Vec<KeptEntry>,
     book: StreamBook,
+    groups: Groups,
+    waiting: Waiting,
+    sessions: SessionBook,
+    snapshots: Snapshots,
     callers: Callers,
     weight: u64,
     latest: i64,
-    visible: u64,
 }
 
 impl Model for Engine {
+    ghost use Rattle.std.specs.Coded.{codes};
+    ghost use Rattle.column_types.specs.contracts.predicate.Pred as pred_code;
     ghost use Rattle.table_model.specs.Table.{Table};
 
     ghost Value = { Table };
+
+    ghost coded = { Prim.hlevel (codes, pred_code.the_row.coded) };
 
     ghost use Rattle.table_engine.specs.Keeps.{Keeps, table_in};
 
@@ -55,6 +72,22 @@ impl Streams for Engine {
     }
 }
 
+impl Sessions for Engine {
+    ghost use Rattle.table_model.specs.Sessions.{read_node_of, visible_by as visible_by_of};
+
+    ghost read_node = { λ table session node. read_node_of table.entries session node };
+
+    ghost visible_by = { λ table moment. visible_by_of table.entries moment };
+
+    fn node(&self, _alloc: Global, session: u32, node: u32) -> Result<Option<ReadNode>, Memory> {
+        Ok(self.sessions.node(session, node))
+    }
+
+    fn visible_by(&self, _alloc: Global, moment: i64) -> Result<u64, Memory> {
+        Ok(self.snapshots.visible_by(moment))
+    }
+}
+
 impl Engine {
     /// A table without an entry.
     pub fn new(alloc: Global, schema: Schema) -> Result<Engine, Memory>
@@ -64,10 +97,13 @@ impl Engine {
             schema,
             entries: Vec::new(alloc),
             book: StreamBook::new(alloc),
+            groups: Groups::new(alloc)?,
+            waiting: Waiting::new(alloc),
+            sessions: SessionBook::new(alloc),
+            snapshots: Snapshots::new(alloc),
             callers: Callers::new(alloc),
             weight: 0,
             latest: 0,
-            visible: 0,
         })
     }
 
@@ -82,7 +118,31 @@ impl Engine {
     pub fn visible(&self) -> u64
         ensures { result ≡ length (visible_of self.now.entries) }
     {
-        self.visible
+        self.groups.len()
+    }
+
+    /// The visible rows so far, in their groups. It asks for no memory, and copies nothing but the `Arc`, which can be
+    /// refused.
+    pub fn spine(&self) -> Result<Arc<Spine>, Memory>
+        ensures { IfOk result (λ spine. joined (arc_value spine) ≡ visible_of self.now.entries) }
+    {
+        self.groups.spine()
+    }
+
+    /// Tells of a node of a session: the rows that it reads, by a lease without a copy of a row, until when, and the moment
+    /// of the history. None exactly where there is no such session, or the session has no such node.
+    pub fn look(&self, key: &Key) -> Result<Option<Held>, Memory>
+        ensures { IfOk result (Looks self.now.columns self.now.entries key.now) }
+    {
+        let Some(session) = self.sessions.session(key.session) else {
+            return Ok(None);
+        };
+        let Some(node) = session.node(key.node) else {
+            return Ok(None);
+        };
+        let spine = self.groups.spine()?;
+        let held = hold(spine, session, node.interval, self.latest)?;
+        Ok(Some(held))
     }
 
     /// The length of the history.
@@ -142,15 +202,25 @@ impl Engine {
     {
         let columns = self.schema.columns().len() as u32;
         let size = size_added(columns, &entry.change);
-        let shown = rows_shown(&self.book, &entry.change);
+        let kept = KeptEntry::of(alloc, entry)?;
+        let (caller, moment) = (kept.caller(), kept.moment());
         self.entries.reserve(1)?;
         self.callers.reserve()?;
-        change_streams(alloc, &mut self.book, &entry)?;
-        self.callers.add(entry.caller);
+        self.snapshots.reserve()?;
+        let before = self.groups.len();
+        change_all(
+            alloc,
+            &mut self.book,
+            &mut self.groups,
+            &mut self.waiting,
+            &mut self.sessions,
+            &kept,
+        )?;
+        note_rows(&mut self.snapshots, moment, before, self.groups.len());
+        self.callers.add(caller);
         self.weight += size;
-        self.latest = self.latest.max(entry.moment);
-        self.visible += shown;
-        self.entries.push(entry)?;
+        self.latest = self.latest.max(moment);
+        self.entries.push(kept)?;
         Ok(())
     }
 
@@ -163,6 +233,7 @@ impl Engine {
             columns: self.schema.columns().len() as u32,
             entries: self.entries.len(),
             streams: self.book.count(),
+            sessions: self.sessions.count(),
             weight: self.weight,
             latest: self.latest,
             caller,
@@ -175,6 +246,7 @@ impl Machine for Engine {
     ghost use Rattle.column_types.specs.declared.schema.Schema.{Schema};
     ghost use Rattle.table_model.specs.Legal.{Takes};
     ghost use Rattle.table_engine.specs.Turns.{Allows};
+    ghost use Rattle.table_engine.specs.Looks.{Looks};
 
     type Command = Command;
 
@@ -183,6 +255,10 @@ impl Machine for Engine {
     type Entry = Entry;
 
     type Fixed = Schema;
+
+    type Key = Key;
+
+    type Look = Option<Held>;
 
     ghost history = { λ table. table.entries };
 
@@ -198,6 +274,8 @@ impl Machine for Engine {
 
     ghost allows = { Allows };
 
+    ghost looks = { Looks };
+
     fn step(
         &mut self,
         alloc: Global,
@@ -206,6 +284,10 @@ impl Machine for Engine {
         now: i64,
     ) -> Result<Reply, Memory> {
         Engine::step(self, alloc, caller, command, now)
+    }
+
+    fn look(&self, key: &Key) -> Result<Option<Held>, Memory> {
+        Engine::look(self, key)
     }
 
     fn entries(&self) -> u64 {

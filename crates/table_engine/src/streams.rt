@@ -1,57 +1,65 @@
-//! What a change does to the streams of a table, and how many rows it makes visible.
+//! What a change does to the streams of a table and to their rows.
 
-ghost use Rattle.std.specs.Prelude.{◌≡◌, ◌≤◌, ◌++◌, ◌∷◌, [], OnOk, OnErr, sum_by};
-ghost use Rattle.table_model.specs.declared.limits.TheConstants.{MAX_WEIGHT};
+ghost use Rattle.std.specs.Prelude.{◌≡◌, ◌++◌, ◌∷◌, [], OnOk, OnErr};
 ghost use Rattle.table_model.specs.History.{History};
 ghost use Rattle.table_model.specs.Streams.{is_committed_kind as is_committed_kind_of};
 ghost use Rattle.write_streams.specs.Book.{find};
 ghost use Rattle.write_streams.specs.Stands.{Stands};
-ghost use Rattle.table_engine.specs.Streams.{CanChange, at_once as at_once_of, rows_in as rows_in_of, flushed_in as flushed_in_of, shown_count};
+ghost use Rattle.table_engine.specs.Streams.{CanChange, at_once as at_once_of, flushed_in as flushed_in_of};
+ghost use Rattle.table_engine.specs.Waiting.{CanStore, Stores};
 
+use crate::kept::{KeptChange, KeptEntry};
+use crate::storing::{show_first, show_streams, store_rows};
+use crate::waiting::Waiting;
 use outside::Memory;
+use row_groups::Groups;
 use std::alloc::Global;
-use table_model::{Change, Entry, StreamKind, StreamRef, StreamState, Streams};
+use table_model::{StreamKind, StreamRef, StreamState, Streams};
 use write_streams::StreamBook;
 
-/// Makes the change of an entry to the streams. Want of memory leaves them as they were.
+/// Makes the change of an entry to the streams, to the visible rows and to those that wait. Want of memory leaves all as
+/// it was.
 pub(crate) fn change_streams(
     alloc: Global,
     book: &mut StreamBook,
-    entry: &Entry,
+    groups: &mut Groups,
+    waiting: &mut Waiting,
+    entry: &KeptEntry,
 ) -> Result<(), Memory>
-    requires { CanChange book.old entry.now.change }
-    ensures ok { OnOk result ((history : History) → Stands book.old history → Stands book.new (history ++ entry.now ∷ [])) }
-    ensures err { OnErr result (book.new ≡ book.old) }
+    requires change { CanChange book.old entry.now.change }
+    requires store { CanStore (find book.old) entry.now.change groups.old waiting.old }
+    ensures stands { OnOk result ((history : History) → Stands book.old history → Stands book.new (history ++ entry.now ∷ [])) }
+    ensures stores { OnOk result (Stores (find book.old) entry.now.change groups.old waiting.old groups.new waiting.new) }
+    ensures book { OnErr result (book.new ≡ book.old) }
+    ensures groups { OnErr result (groups.new ≡ groups.old) }
+    ensures waiting { OnErr result (waiting.new ≡ waiting.old) }
 {
-    match &entry.change {
-        Change::Create { kind, .. } => {
-            book.add(alloc, *kind, entry.moment)?;
-        }
-        Change::Append { stream, rows, .. } => book.append(stream, rows.len() as u64),
-        Change::Flush { stream, upto } => book.flush(stream, *upto),
-        Change::Finalise { stream } => book.finalise(stream),
-        Change::Commit { streams } => book.commit(streams.as_slice(), entry.moment),
-    }
-    Ok(())
-}
-
-/// How many rows a change makes visible.
-pub(crate) fn rows_shown(book: &StreamBook, change: &Change) -> u64
-    requires { shown_count (find book.now) change.now ≤ MAX_WEIGHT }
-    ensures { result ≡ shown_count (find book.now) change.now }
-{
-    match change {
-        Change::Append { stream, rows, .. } => {
-            if is_at_once(*stream, book.state(*stream)) {
-                rows.len() as u64
-            } else {
-                0
+    match entry.change() {
+        KeptChange::Create { kind, .. } => {
+            waiting.open(alloc)?;
+            if let Err(memory) = book.add(alloc, *kind, entry.moment()) {
+                waiting.close();
+                return Err(memory);
             }
         }
-        Change::Flush { stream, upto } => upto.saturating_sub(flushed_in(book.state(*stream))),
-        Change::Commit { streams } => rows_of(book, streams.as_slice()),
-        Change::Create { .. } | Change::Finalise { .. } => 0,
+        KeptChange::Append { stream, rows, .. } => {
+            let at_once = is_at_once(*stream, book.state(*stream));
+            store_rows(alloc, groups, waiting, *stream, at_once, rows)?;
+            book.append(stream, rows.len() as u64);
+        }
+        KeptChange::Flush { stream, upto } => {
+            let count = upto.saturating_sub(flushed_in(book.state(*stream)));
+            show_first(alloc, groups, waiting, *stream, count)?;
+            book.flush(stream, *upto);
+        }
+        KeptChange::Finalise { stream } => book.finalise(stream),
+        KeptChange::Commit { streams } => {
+            show_streams(alloc, groups, waiting, streams.as_slice())?;
+            book.commit(streams.as_slice(), entry.moment());
+        }
+        KeptChange::Session { .. } | KeptChange::Split { .. } => unreachable!(),
     }
+    Ok(())
 }
 
 // Whether rows appended to this stream are visible at once.
@@ -74,15 +82,6 @@ fn is_committed_kind(kind: StreamKind) -> bool
     }
 }
 
-fn rows_in(state: Option<StreamState>) -> u64
-    ensures { result ≡ rows_in_of state }
-{
-    match state {
-        Some(state) => state.rows,
-        None => 0,
-    }
-}
-
 fn flushed_in(state: Option<StreamState>) -> u64
     ensures { result ≡ flushed_in_of state }
 {
@@ -90,17 +89,4 @@ fn flushed_in(state: Option<StreamState>) -> u64
         Some(state) => state.flushed,
         None => 0,
     }
-}
-
-// The rows of these streams.
-#[tactic(auto, using(std::proofs::lemmas::List::Sums::sum_by_more_le))]
-fn rows_of(book: &StreamBook, streams: &[StreamRef]) -> u64
-    requires { sum_by (λ on. rows_in_of (find book.now on)) streams.now ≤ MAX_WEIGHT }
-    ensures { result ≡ sum_by (λ on. rows_in_of (find book.now on)) streams.now }
-{
-    let mut rows = 0;
-    for stream in streams {
-        rows += rows_in(book.state(*stream));
-    }
-    rows
 }

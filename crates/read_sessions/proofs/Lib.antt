@@ -1,0 +1,4 @@
+pub mod HistoryLemmas
+pub mod SnapshotLemmas
+pub mod SplitLemmas
+pub mod BookLemmas

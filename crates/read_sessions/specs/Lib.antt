@@ -1,0 +1,3 @@
+pub mod Book
+pub mod Stands
+pub mod Snapshots
