@@ -1,3 +1,4 @@
 pub mod Tables
 pub mod Plans
+pub mod Looked
 pub mod Found

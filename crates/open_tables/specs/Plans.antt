@@ -42,6 +42,10 @@ on_command columns command told history caller now =
 abbrev pub on_stream : {A : Type 0} → StreamRef → (Bool → A) → TurnFor A
 on_stream on told history caller now = record { entry = None; answer = told (is_some (state_of history on)) }
 
+-- what is told of a history at a moment; no entry is added
+abbrev pub on_history : {A : Type 0} → (History → ℤ → A) → TurnFor A
+on_history told history caller now = record { entry = None; answer = told history now }
+
 -- The request is answered at a point of the table's history, and the pass has then seen that with the entry, if there is
 -- one.
 pub record GetsAt {A : Type 0} (passes : List TableView) (place : ℕ) (turn : TurnFor A) (now : ℤ) (answer : A) (after : List TableView) : Type 0 where

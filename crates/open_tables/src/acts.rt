@@ -1,4 +1,4 @@
-//! Commands to a table, by its pass.
+//! Commands to a table, and looks at it, by its pass.
 
 ghost use Rattle.std.specs.Prelude.{◌≡◌, ◌<◌, ◌≤◌, ◌≤ℤ◌, Bool, length, slice_get, Some, IfOk, OnErr};
 ghost use Rattle.std.specs.List.{insert};
@@ -8,13 +8,14 @@ ghost use Rattle.table_model.specs.declared.replies.Reply.{Reply as AReply};
 ghost use Rattle.table_spec.specs.declared.spec.TableSpec.{TableSpec};
 ghost use Rattle.open_tables.specs.Tables.{AreTheirs, specs_of, TakesAt};
 ghost use Rattle.open_tables.specs.Plans.{At, Gets, SeesAt, Loses, on_command, on_stream};
+ghost use Rattle.open_tables.specs.Looked.{LooksAt};
 ghost use Rattle.open_tables.specs.Found.{is_found};
 
 use crate::{Passes, Tables};
 use outside::Memory;
 use std::alloc::Global;
 use std::sync::Wait;
-use table_engine::Engine;
+use table_engine::{Engine, Held, Key};
 use table_model::{Command, Reply, StreamRef};
 use turn_table::Pass;
 
@@ -92,5 +93,30 @@ impl Tables {
             Ok(reply) => (passes, Ok(is_found(&reply))),
             Err(memory) => (passes, Err(memory)),
         }
+    }
+
+    /// Takes a turn at the table of this place, for a look at a node of a session: None exactly where the history has no
+    /// such session, or the session no such node. No entry is added.
+    ///
+    /// At want of memory the pass has seen a point of the history too.
+    pub fn look<R: Wait>(
+        &self,
+        rt: &R,
+        place: u32,
+        mut passes: Passes,
+        session: u32,
+        node: u32,
+    ) -> (Passes, Result<Option<Held>, Memory>)
+        requires place { place < length self.now }
+        requires theirs { AreTheirs self.now passes }
+        ensures theirs { AreTheirs self.now result.0 }
+        ensures looks { IfOk result.1 (λ look. (spec : TableSpec) → slice_get (specs_of self.now) place ≡ Some spec → LooksAt passes place spec.schema (record { session = session; node = node }) look result.0) }
+        ensures sees { OnErr result.1 (SeesAt passes place result.0) }
+    {
+        let key = Key { session, node };
+        let pass = passes.each.remove(place as usize);
+        let (pass, told) = self.turn(place).look(rt, pass, &key);
+        put_back(&mut passes.each, place as usize, pass);
+        (passes, told)
     }
 }

@@ -1,7 +1,8 @@
 //! The open tables of a server, and the passes of one caller to them.
 //!
 //! [`Tables::start`] opens 1 to 8 tables, each with an empty history, and gives one pass to each. A request finds its
-//! table by name and acts on it by [`Tables::act`], which takes a turn with the table's pass.
+//! table by name and acts on it by [`Tables::act`], which takes a turn with the table's pass. [`Tables::look`] takes one
+//! for a look at the table's history.
 //!
 //! What a request asks is a plan, of `specs/Plans`: an answer that needs no history, or what the table at a place
 //! answers at a history. `Gets` and `Loses` say which answer it gets there, what its passes have then seen, and what

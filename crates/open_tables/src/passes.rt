@@ -12,9 +12,13 @@ pub struct Passes {
 
 impl Model for Passes {
     ghost use Rattle.std.specs.Prelude.{List};
+    ghost use Rattle.std.specs.Coded.{codes};
+    ghost use Rattle.column_types.specs.contracts.predicate.Pred as pred_code;
     ghost use Rattle.open_tables.specs.Tables.{TableView};
 
     ghost Value = { List TableView };
+
+    ghost coded = { Prim.hlevel (codes, pred_code.the_row.coded) };
 
     ghost view = { λ passes. passes.each.items };
 }

@@ -1,6 +1,6 @@
 //! Open tables.
 
-ghost use Rattle.std.specs.Prelude.{◌≡◌, ◌<◌, length, position, slice_get, Some, IfOk, IfSome, All};
+ghost use Rattle.std.specs.Prelude.{◌≡◌, ◌<◌, length, nat_lt, position, slice_get, Some, IfOk, IfSome, All};
 ghost use Rattle.std.specs.Str.{bytes_eq};
 ghost use Rattle.turn_table.specs.View.{first_pass};
 ghost use Rattle.open_tables.specs.Tables.{AreTables, AreTheirs, HasItsColumns, specs_of, place_of, first_passes};
@@ -92,6 +92,13 @@ impl Tables {
     {
         let place = place_named(self.each.as_slice(), name)?;
         Some(place as u32)
+    }
+
+    /// Whether there is a table at this place.
+    pub fn has_place(&self, place: u32) -> bool
+        ensures { result ≡ nat_lt place (length self.now) }
+    {
+        (place as usize) < self.each.len()
     }
 
     /// The name and the columns of the table at this place.
