@@ -11,3 +11,4 @@ pub mod OneAnswer
 pub mod Valued
 pub mod Ranges
 pub mod Typed
+pub mod Computed

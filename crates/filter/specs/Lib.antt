@@ -5,3 +5,4 @@ pub mod Meaning
 pub mod Reading
 pub mod Restriction
 pub mod Text
+pub mod Computed

@@ -6,8 +6,9 @@
 //!
 //! The contract stands on four definitions of `specs/`: `Text`, the tokens of a list of bytes; `Grammar`, trees by
 //! the format's productions and the tokens that they spell; `Meaning` and `Literal`, what a tree says of a schema;
-//! and `Restriction`, the cause of each answer. [`one_answer`] says that a text has one answer. The predicate is
-//! typed for the schema, as `column_types` defines it.
+//! and `Restriction`, the cause of each answer. [`one_answer`] says that a text has one answer, [`restriction_answers`]
+//! which it is, as a function of the schema and the text. The predicate is typed for the schema, as `column_types` defines
+//! it.
 #![tactic(auto)]
 
 mod fault;
@@ -22,4 +23,4 @@ mod token;
 
 pub use fault::FilterFault;
 pub use limits::{MAX_BYTES, MAX_DEPTH, MAX_LITERALS};
-pub use restriction::{one_answer, parse_restriction};
+pub use restriction::{one_answer, parse_restriction, restriction_answers};

@@ -5,6 +5,7 @@ ghost use Rattle.column_types.specs.Typed.{IsTyped};
 ghost use Rattle.column_types.specs.declared.column.Column.{Column};
 ghost use Rattle.column_types.specs.declared.predicate.Pred.{Pred};
 ghost use Rattle.filter.specs.declared.fault.FilterFault.{FilterFault};
+ghost use Rattle.filter.specs.Computed.{IsRestriction, RestrictionsAreAnswered};
 ghost use Rattle.filter.specs.Machine.{depth_of};
 ghost use Rattle.filter.specs.Reading.{Takes, Reads};
 ghost use Rattle.filter.specs.Restriction.{Answers, IsOneAnswer, ends_literal};
@@ -127,15 +128,8 @@ fn read(alloc: Global, schema: &Schema, text: &[u8]) -> Result<Meaning, ReadFaul
     }
 }
 
-/// The predicate of a restriction over the columns of a schema.
-///
-/// `Long` comes first for a text of more than 16,384 bytes. Then from the left comes `Syntax` at the first byte of
-/// the first token, or of what is no token, with which the grammar can't go on, or at the text's length where it
-/// ends too early; and `Long` at the 1,025th literal, or where parentheses of groups and NOTs before operands stand
-/// 65 deep. Then from the left, test by test, come `UnknownColumn` and `IllTyped`.
-///
-/// The predicate is typed for the schema, as `truth` wants it.
-pub fn parse_restriction(alloc: Global, text: &str, schema: &Schema) -> Result<Pred, FilterFault>
+/// The predicate of a restriction, or why there is none.
+fn answer_to(alloc: Global, text: &str, schema: &Schema) -> Result<Pred, FilterFault>
     ensures cause { Answers schema.now text.now result }
     ensures typed { IfOk result (IsTyped schema.now) }
 {
@@ -152,7 +146,29 @@ pub fn parse_restriction(alloc: Global, text: &str, schema: &Schema) -> Result<P
     }
 }
 
+/// The predicate of a restriction over the columns of a schema.
+///
+/// `Long` comes first for a text of more than 16,384 bytes. Then from the left comes `Syntax` at the first byte of
+/// the first token, or of what is no token, with which the grammar can't go on, or at the text's length where it
+/// ends too early; and `Long` at the 1,025th literal, or where parentheses of groups and NOTs before operands stand
+/// 65 deep. Then from the left, test by test, come `UnknownColumn` and `IllTyped`.
+///
+/// The predicate is typed for the schema, as `truth` wants it.
+#[tactic(auto, using(crate::proofs::Computed::restriction_is))]
+pub fn parse_restriction(alloc: Global, text: &str, schema: &Schema) -> Result<Pred, FilterFault>
+    ensures cause { Answers schema.now text.now result }
+    ensures value { IsRestriction schema.now text.now result }
+    ensures typed { IfOk result (IsTyped schema.now) }
+{
+    answer_to(alloc, text, schema)
+}
+
 /// A text has one answer, but for want of memory: whatever the answer is, its cause is there, and no other's.
 pub fn one_answer()
     ensures { (columns : List Column) (text : List ℕ) (a b : Result Pred FilterFault) → Answers columns text a → Answers columns text b → IsOneAnswer a b }
+{}
+
+/// `restriction_of`, which other crates' definitions name, is the answer of a text, and no want of memory.
+pub fn restriction_answers()
+    ensures { RestrictionsAreAnswered }
 {}

@@ -2,7 +2,7 @@ use Rattle.std.proofs.Common.{Ok, subst, ap, ◌∙◌}
 use Rattle.filter.specs.Reading.{Reads}
 use Rattle.filter.specs.Restriction.{Means}
 use Rattle.filter.proofs.Typed.{means_typed}
-use Rattle.filter.proofs.restriction.parse_restriction.Goals as goal
+use Rattle.filter.proofs.restriction.answer_to.Goals as goal
 
 pub returns-in-Ok-Ok-clause-typed : goal.returns-in-Ok-Ok-clause-typed
 returns-in-Ok-Ok-clause-typed c =
