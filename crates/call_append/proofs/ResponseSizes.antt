@@ -94,6 +94,7 @@ phrase_size why.BadName = omega arith
 phrase_size why.NoTable = omega arith
 phrase_size why.NoStream = omega arith
 phrase_size why.NoRead = omega arith
+phrase_size why.Expired = omega arith
 phrase_size why.NoSchema = omega arith
 phrase_size why.BadDescriptor = omega arith
 phrase_size (why.ExtraField x) = omega arith
@@ -118,6 +119,7 @@ phrase_size why.NoStreams = omega arith
 phrase_size why.Twice = omega arith
 phrase_size why.OtherTable = omega arith
 phrase_size why.BadFormat = omega arith
+phrase_size why.BadTime = omega arith
 phrase_size why.NegativeCount = omega arith
 phrase_size why.Long = omega arith
 phrase_size (why.Syntax x) = omega arith
@@ -235,6 +237,9 @@ told_short columns (reply.Finalised rows) = accepted_short None
 told_short columns (reply.Committed moment) = accepted_short None
 told_short columns (reply.NotCommitted errors) = accepted_short None
 told_short columns (reply.Stream kind created committed) = accepted_short None
+told_short columns (reply.Session session roots expires) = accepted_short None
+told_short columns (reply.Children left right) = accepted_short None
+told_short columns reply.NoSplit = accepted_short None
 
 -- what is due is short, and so is what was given
 pub responds_short : (old new : Table) (due : Outcome) (r : Result AppendRowsResponse NoResponse) → IsShort due.response → Responds old new due r → IfOk r IsShort
@@ -251,6 +256,9 @@ told_without_short columns cause faults (reply.Finalised rows) few = refused_sho
 told_without_short columns cause faults (reply.Committed moment) few = refused_short columns cause faults few
 told_without_short columns cause faults (reply.NotCommitted errors) few = refused_short columns cause faults few
 told_without_short columns cause faults (reply.Stream kind created committed) few = refused_short columns cause faults few
+told_without_short columns cause faults (reply.Session session roots expires) few = refused_short columns cause faults few
+told_without_short columns cause faults (reply.Children left right) few = refused_short columns cause faults few
+told_without_short columns cause faults reply.NoSplit few = refused_short columns cause faults few
 
 pub text_short : (cause : Why) (text : Result (List ℕ) Memory) → IfOk text (λ t. t ≡ cause_text cause) → IfOk text (λ t. length t ≤ 1024)
 text_short cause (Ok text) is = omega (arith, ap length is, cause_size cause)

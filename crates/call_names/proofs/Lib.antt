@@ -1,2 +1,3 @@
 pub mod LossLemmas
 pub mod TableLemmas
+pub mod NodeLemmas

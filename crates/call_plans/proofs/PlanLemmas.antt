@@ -3,18 +3,39 @@ use Rattle.std.proofs.Common.{◌≡◌, ℕ, zero, suc, ◌<◌, ℤ, Bool, tru
 use Rattle.std.specs.Prelude.{slice_get, not, is_ok, map}
 use Rattle.std.proofs.lemmas.Option.{none-some}
 use Rattle.column_types.specs.declared.column.Column.{Column}
+use Rattle.column_types.specs.declared.predicate.Pred.{Pred}
+use Rattle.column_types.specs.declared.row.Row.{Row}
+use Rattle.column_types.specs.Fields.{unknown_name}
+use Rattle.filter.specs.declared.fault.FilterFault.{FilterFault}
+use Rattle.filter.specs.declared.fault.FilterFault.TheVariants as filter_fault
+use Rattle.split_tree.specs.declared.node.Node.{Node}
 use Rattle.grpc_meta.specs.declared.methods.Method.{Method}
 use Rattle.grpc_meta.specs.declared.methods.Method.TheVariants as method
 use Rattle.resource_names.specs.declared.tables.TableName.{TableName}
 use Rattle.resource_names.specs.declared.write_streams.WriteName.{WriteName}
+use Rattle.resource_names.specs.declared.projects.ProjectName.{ProjectName}
+use Rattle.resource_names.specs.declared.read_streams.ReadName.{ReadName}
+use Rattle.resource_names.specs.declared.read_streams.ReadPlace.{ReadPlace}
+use Rattle.resource_names.specs.Project.{project_name_of}
+use Rattle.resource_names.specs.Read.{read_name_of, place_of as place_of_read}
 use Rattle.resource_names.specs.Table.{table_name_of, table_text}
 use Rattle.resource_names.specs.Write.{write_name_of}
 use Rattle.table_spec.specs.declared.spec.TableSpec.{TableSpec}
 use Rattle.table_spec.specs.Columns.{all_of}
+use Rattle.table_model.specs.declared.reasons.Refusal.{Refusal}
 use Rattle.table_model.specs.declared.replies.Reply.{Reply}
 use Rattle.table_model.specs.declared.replies.Reply.TheVariants as reply
 use Rattle.table_model.specs.declared.streams.StreamKind.{StreamKind}
 use Rattle.table_model.specs.History.{History}
+use Rattle.table_model.specs.Rules.{unless}
+use Rattle.table_model.specs.Sessions.{Opened, session_of}
+use Rattle.read_msgs.specs.declared.sessions.ReadSession.{ReadSession}
+use Rattle.read_msgs.specs.declared.sessions.CreateReadSessionRequest.{CreateReadSessionRequest}
+use Rattle.read_msgs.specs.declared.streams.SplitReadStreamRequest.{SplitReadStreamRequest}
+use Rattle.read_msgs.specs.declared.rows.ReadRowsRequest.{ReadRowsRequest}
+use Rattle.read_msgs.specs.Sessions.{create_read_session_request_of}
+use Rattle.read_msgs.specs.Streams.{split_read_stream_request_of}
+use Rattle.read_msgs.specs.Rows.{read_rows_request_of}
 use Rattle.write_msgs.specs.declared.faults.MsgFault.{MsgFault}
 use Rattle.write_msgs.specs.declared.faults.MsgFault.TheVariants as fault
 use Rattle.write_msgs.specs.declared.commits.BatchCommitWriteStreamsRequest.{BatchCommitWriteStreamsRequest}
@@ -47,6 +68,10 @@ use Rattle.call_plans.specs.Flushing.{told_flushed, flush_on, flush_by, flush_pl
 use Rattle.call_plans.specs.Committed.{told_committed}
 use Rattle.call_plans.specs.Twice.{repeats_unknown}
 use Rattle.call_plans.specs.Committing.{has_other_table, is_none_named, commit_of, commit_on, commit_by, commit_plan}
+use Rattle.call_plans.specs.ReadNames.{on_node}
+use Rattle.call_plans.specs.Sessions.{told_begun, no_restriction, session_over, session_with, session_by, session_rules, options_in, session_in, session_on, create_session_by, create_session_plan}
+use Rattle.call_plans.specs.Splitting.{told_split, split_on, split_by, split_plan}
+use Rattle.call_plans.specs.Reading.{told_rows, read_node, read_session, read_answer, read_on, read_by, read_plan}
 use Rattle.call_plans.specs.Plans.{call_plan, plan}
 use Rattle.call_plans.specs.Laws.{AsksOneOf, Answers, ends}
 
@@ -126,6 +151,40 @@ told_committed-ends texts (reply.NotCommitted errors) = refl
 told_committed-ends texts (reply.Refused refusal) = refl
 told_committed-ends texts _ = refl
 
+told_begun-ends : (project : ProjectName) (session : ReadSession) (place : ℕ) (columns : List Column) (fields : List ℕ) (told : Reply) → ends (told_begun project session place columns fields told) ≡ true
+told_begun-ends project session place columns fields (reply.Session number roots expires) = refl
+told_begun-ends project session place columns fields (reply.Refused refusal) = refl
+told_begun-ends project session place columns fields _ = refl
+
+no_restriction-ends : (broken : FilterFault) → ends (no_restriction broken) ≡ true
+no_restriction-ends filter_fault.Memory = refl
+no_restriction-ends filter_fault.Long = refl
+no_restriction-ends (filter_fault.Syntax at) = refl
+no_restriction-ends (filter_fault.UnknownColumn name) = refl
+no_restriction-ends (filter_fault.IllTyped name) = refl
+
+told_split-ends : (project : List ℕ) (node : ReadPlace) (told : Reply) → ends (told_split project node told) ≡ true
+told_split-ends project node (reply.Children left right) = refl
+told_split-ends project node reply.NoSplit = refl
+told_split-ends project node (reply.Refused refusal) = refl
+told_split-ends project node _ = refl
+
+told_rows-ends : (columns : List Column) (fields : List ℕ) (rows : Result (List Row) Refusal) → ends (told_rows columns fields rows) ≡ true
+told_rows-ends columns fields (Ok rows) = refl
+told_rows-ends columns fields (Err refusal) = refl
+
+read_session-ends : (columns : List Column) (offset : ℤ) (session : Option Opened) (node : ℕ) (history : History) (now : ℤ) → ends (read_session columns offset session node history now) ≡ true
+read_session-ends columns offset None node history now = refl
+read_session-ends columns offset (Some session) node history now = at_node (slice_get session.nodes.list node)
+  where
+    at_node : (found : Option Node) → ends (read_node columns offset session found history now) ≡ true
+    at_node None = refl
+    at_node (Some found) = told_rows-ends columns session.fields _
+
+read_answer-ends : (columns : List Column) (session node : ℕ) (offset : ℤ) (history : History) (now : ℤ) → ends (read_answer columns session node offset history now) ≡ true
+unfolding read_answer
+read_answer-ends columns session node offset history now = read_session-ends columns offset (session_of history session) node history now
+
 end_answer-ends : (end : Over) → ends (end_answer end) ≡ true
 end_answer-ends over.Finished = refl
 end_answer-ends over.CutShort = refl
@@ -203,19 +262,74 @@ commit_by-sound : (specs : List TableSpec) (read : Result BatchCommitWriteStream
 commit_by-sound specs (Ok request) = commit_on-sound specs request.write_streams (table_name_of request.parent) (all_of (map write_name_of request.write_streams))
 commit_by-sound specs (Err broken) = unreadable-sound specs broken
 
+session_over-sound : (specs : List TableSpec) (project : ProjectName) (session : ReadSession) (count : ℤ) (place : ℕ) (columns : List Column) (fields : List ℕ) (read : Result Pred FilterFault)
+    → place < length specs → IsSound (length specs) true (session_over project session place columns count fields read)
+session_over-sound specs project session count place columns fields (Ok pred) inside =
+    at_sound _ _ place _ inside (λ history caller now. told_begun-ends project session place columns fields _)
+session_over-sound specs project session count place columns fields (Err broken) inside = fixed_sound _ _ _ (no_restriction-ends broken)
+
+session_with-sound : (specs : List TableSpec) (project : ProjectName) (session : ReadSession) (count : ℤ) (place : ℕ) (columns : List Column) (names : List (List ℕ)) (unknown : Option ℕ)
+    → place < length specs → IsSound (length specs) true (session_with project session place columns count names unknown)
+session_with-sound specs project session count place columns names None inside = session_over-sound specs project session count place columns _ _ inside
+session_with-sound specs project session count place columns names (Some at) inside = fixed_sound _ _ _ refl
+
+session_by-sound : (specs : List TableSpec) (project : ProjectName) (session : ReadSession) (count : ℤ) (place : ℕ) (columns : List Column) (check : Result (List (List ℕ)) Refusal)
+    → place < length specs → IsSound (length specs) true (session_by project session place columns count check)
+session_by-sound specs project session count place columns (Ok names) inside = session_with-sound specs project session count place columns names (unknown_name columns names) inside
+session_by-sound specs project session count place columns (Err refusal) inside = fixed_sound _ _ _ refl
+
+session_on-sound : (specs : List TableSpec) (session : ReadSession) (count : ℤ) (project : Option ProjectName) (table : Option TableName) → IsSound (length specs) true (session_on specs session count project table)
+session_on-sound specs session count None table = fixed_sound _ _ _ refl
+session_on-sound specs session count (Some project) None = fixed_sound _ _ _ refl
+session_on-sound specs session count (Some project) (Some table) =
+    on_table-sound specs true _ table _ refl (λ place spec inside. session_by-sound specs project session count place spec.schema (unless (session_rules session count) (options_in session).selected_fields) inside)
+
+create_session_by-sound : (specs : List TableSpec) (read : Result CreateReadSessionRequest MsgFault) → IsSound (length specs) true (create_session_by specs read)
+create_session_by-sound specs (Ok request) = session_on-sound specs (session_in request) request.max_stream_count (project_name_of request.parent) (table_name_of (session_in request).table)
+create_session_by-sound specs (Err broken) = unreadable-sound specs broken
+
+on_node-sound : (specs : List TableSpec) (over : Bool) (missing : Answer) (asks : ReadPlace → TableSpec → Plan Answer) → ends missing ≡ over
+    → ((node : ReadPlace) (spec : TableSpec) → node.table < length specs → IsSound (length specs) over (asks node spec))
+    → (node : Option ReadPlace) → IsSound (length specs) over (on_node specs missing node asks)
+on_node-sound specs over missing asks e each None = fixed_sound (length specs) over missing e
+on_node-sound specs over missing asks e each (Some node) = at_spec (slice_get specs node.table) refl
+  where
+    at_spec : (found : Option TableSpec) → slice_get specs node.table ≡ found → IsSound (length specs) over (on_spec missing node.table found (λ spec. asks node spec))
+    at_spec None is = fixed_sound (length specs) over missing e
+    at_spec (Some spec) is = each node spec (below specs node.table spec is)
+
+split_on-sound : (specs : List TableSpec) (name : Option ReadName) → IsSound (length specs) true (split_on specs name)
+split_on-sound specs None = fixed_sound _ _ _ refl
+split_on-sound specs (Some name) =
+    on_node-sound specs true _ _ refl (λ node spec inside. at_sound _ _ node.table _ inside (λ history caller now. told_split-ends name.project node _)) (place_of_read name)
+
+split_by-sound : (specs : List TableSpec) (read : Result SplitReadStreamRequest MsgFault) → IsSound (length specs) true (split_by specs read)
+split_by-sound specs (Ok request) = split_on-sound specs (read_name_of request.name)
+split_by-sound specs (Err broken) = unreadable-sound specs broken
+
+read_on-sound : (specs : List TableSpec) (request : ReadRowsRequest) (name : Option ReadName) → IsSound (length specs) true (read_on specs request name)
+read_on-sound specs request None = fixed_sound _ _ _ refl
+read_on-sound specs request (Some name) =
+    on_node-sound specs true _ _ refl
+    (λ node spec inside. at_sound _ _ node.table _ inside (λ history caller now. read_answer-ends spec.schema node.session node.node request.offset history now)) (place_of_read name)
+
+read_by-sound : (specs : List TableSpec) (read : Result ReadRowsRequest MsgFault) → IsSound (length specs) true (read_by specs read)
+read_by-sound specs (Ok request) = read_on-sound specs request (read_name_of request.read_stream)
+read_by-sound specs (Err broken) = unreadable-sound specs broken
+
 -- ---- all of them
 
 call_plan-sound : (specs : List TableSpec) (m : Method) (message : List ℕ) → IsSound (length specs) true (call_plan specs m message)
-unfolding create_plan get_plan finalise_plan flush_plan commit_plan
+unfolding create_plan get_plan finalise_plan flush_plan commit_plan create_session_plan read_plan split_plan
 call_plan-sound specs method.CreateWriteStream message = create_by-sound specs (create_write_stream_request_of message)
 call_plan-sound specs method.GetWriteStream message = get_by-sound specs (get_write_stream_request_of message)
 call_plan-sound specs method.FinalizeWriteStream message = finalise_by-sound specs (finalize_write_stream_request_of message)
 call_plan-sound specs method.FlushRows message = flush_by-sound specs (flush_rows_request_of message)
 call_plan-sound specs method.BatchCommitWriteStreams message = commit_by-sound specs (batch_commit_write_streams_request_of message)
 call_plan-sound specs method.AppendRows message = fixed_sound _ _ _ refl
-call_plan-sound specs method.CreateReadSession message = fixed_sound _ _ _ refl
-call_plan-sound specs method.ReadRows message = fixed_sound _ _ _ refl
-call_plan-sound specs method.SplitReadStream message = fixed_sound _ _ _ refl
+call_plan-sound specs method.CreateReadSession message = create_session_by-sound specs (create_read_session_request_of message)
+call_plan-sound specs method.ReadRows message = read_by-sound specs (read_rows_request_of message)
+call_plan-sound specs method.SplitReadStream message = split_by-sound specs (split_read_stream_request_of message)
 
 pub plan-sound : (specs : List TableSpec) (named : Named) (asked : Ask) → IsSound (length specs) (ends_call asked) (plan specs named asked)
 unfolding plan append_plan

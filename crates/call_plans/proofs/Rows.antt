@@ -1,5 +1,5 @@
 -- Rows worked out by hand: what requests to one table ask, and what they are answered while its history is empty.
-use Rattle.std.proofs.Common.{◌≡◌, ℕ, ℤ, pos, negsuc, List, [], ◌∷◌, ◌++◌, Some, None, Ok, refl}
+use Rattle.std.proofs.Common.{◌≡◌, ℕ, ℤ, pos, negsuc, Option, List, [], ◌∷◌, ◌++◌, Some, None, Ok, refl}
 use Rattle.std.specs.Prelude.{codes}
 use Rattle.std.specs.Fmt.{digits}
 use Rattle.column_types.specs.declared.column.Column.{Column}
@@ -13,6 +13,7 @@ use Rattle.resource_names.specs.Number.{number_of}
 use Rattle.resource_names.specs.Table.{table_name_of}
 use Rattle.resource_names.specs.Write.{write_name_of, id_of}
 use Rattle.table_spec.specs.declared.spec.TableSpec.{TableSpec}
+use Rattle.table_model.specs.declared.reasons.Why.TheVariants as why
 use Rattle.table_model.specs.Answer.{answer_by}
 use Rattle.write_msgs.specs.CommitPartsBytes.{timestamp_bytes, storage_error_bytes}
 use Rattle.write_msgs.specs.CommitsBytes.{batch_commit_write_streams_response_bytes}
@@ -21,13 +22,22 @@ use Rattle.write_msgs.specs.ResponseBytes.{append_rows_response_bytes, status_by
 use Rattle.write_msgs.specs.Streams.{get_write_stream_request_of, finalize_write_stream_request_of}
 use Rattle.schema_msgs.specs.SchemaBytes.{table_schema_bytes, field_records}
 use Rattle.schema_msgs.specs.StreamBytes.{write_stream_bytes}
+use Rattle.filter.specs.Computed.{reads_from, restriction_of}
+use Rattle.filter.specs.Machine.{end, operand_at}
+use Rattle.resource_names.specs.Project.{project_name_of}
+use Rattle.resource_names.specs.Read.{read_name_of, place_of}
+use Rattle.table_model.specs.Sessions.{session_of}
+use Rattle.write_msgs.specs.declared.commit_parts.Timestamp.{Timestamp}
+use Rattle.read_msgs.specs.declared.options.TableReadOptions.{TableReadOptions}
+use Rattle.read_msgs.specs.declared.sessions.ReadSession.{ReadSession}
+use Rattle.read_msgs.specs.SessionsBytes.{read_session_bytes}
 use Rattle.open_tables.specs.Plans.{Plan, Fixed, At}
 use Rattle.conn_requests.specs.declared.asks.Ask.TheVariants as ask
 use Rattle.conn_requests.specs.declared.answers.Answer.{Answer}
 use Rattle.conn_requests.specs.declared.answers.Answer.TheVariants as answer
 use Rattle.conn_requests.specs.Ends.{status_only}
 use Rattle.conn_requests.specs.Names.{Named, nothing_named}
-use Rattle.call_plans.specs.Endings.{responded}
+use Rattle.call_plans.specs.Endings.{responded, refused_for}
 use Rattle.call_plans.specs.Moments.{timestamp}
 use Rattle.call_plans.specs.Columns.{fields_of}
 use Rattle.call_plans.specs.Appending.{append_plan, append_by}
@@ -37,6 +47,9 @@ use Rattle.call_plans.specs.Finalising.{finalise_plan, finalise_by}
 use Rattle.call_plans.specs.Flushing.{flush_by}
 use Rattle.call_plans.specs.Twice.{repeats}
 use Rattle.call_plans.specs.Committing.{commit_by}
+use Rattle.call_plans.specs.Sessions.{create_session_by}
+use Rattle.call_plans.specs.Splitting.{split_by}
+use Rattle.call_plans.specs.Reading.{read_by, read_answer}
 use Rattle.call_plans.specs.Plans.{plan}
 
 -- ---- one table
@@ -205,3 +218,77 @@ commit_unknown : commit ((table ++ codes "/streams/x") ∷ (table ++ codes "/_de
     )
 unfolding table_name_of write_name_of id_of number_of answer_by repeats batch_commit_write_streams_response_bytes storage_error_bytes varint_of groups_of digits
 commit_unknown = refl
+
+-- ---- CreateReadSession
+
+-- with AVRO, a snapshot or none, and options or none
+abbrev asked : Option Timestamp → Option TableReadOptions → ReadSession
+asked time options = record {
+  name = [];
+  expire_time = None;
+  data_format = pos 1;
+  avro_schema = None;
+  table = table;
+  table_modifiers = Some (record { snapshot_time = time });
+  read_options = options;
+  streams = [];
+}
+
+abbrev begin : ReadSession → (count : ℤ) → Answer
+begin session count = first_answer (create_session_by specs (Ok (record { parent = codes "projects/q"; read_session = Some session; max_stream_count = count })))
+
+session_nothing : create_session_by specs (Ok (record { parent = codes "projects/q"; read_session = None; max_stream_count = pos 0 })) ≡ Fixed (status_only 3 (codes "bad resource name"))
+unfolding project_name_of table_name_of
+session_nothing = refl
+
+-- a session of a new table has one read stream, without a row; it expires six hours after it was begun
+session_begun : begin (asked None None) (pos 0)
+    ≡ responded (read_session_bytes (record {
+      name = codes "projects/q/locations/local/sessions/t0-1";
+      expire_time = Some (record { seconds = pos 21_601; nanos = pos 500_000_000 });
+      data_format = pos 1;
+      avro_schema = Some (record { schema = codes "{\"type\":\"record\",\"name\":\"__root__\",\"fields\":[{\"name\":\"id\",\"type\":\"long\"}]}" });
+      table = table;
+      table_modifiers = None;
+      read_options = None;
+      streams = record { name = codes "projects/q/locations/local/sessions/t0-1/streams/0" } ∷ [];
+    }))
+unfolding project_name_of table_name_of restriction_of reads_from end operand_at answer_by digits
+session_begun = refl
+
+-- a billion nanoseconds are a second
+bad_time : begin (asked (Some (record { seconds = pos 0; nanos = pos 1_000_000_000 })) None) (pos 0) ≡ status_only 3 (codes "bad snapshot time")
+unfolding project_name_of table_name_of
+bad_time = refl
+
+-- the time counts before the number of read streams, and that before the options
+negative_count : begin (asked (Some (record { seconds = pos 0; nanos = pos 999_999_999 })) (Some (record { selected_fields = codes "no" ∷ []; row_restriction = [] }))) (negsuc 0)
+    ≡ status_only 3 (codes "negative stream count")
+unfolding project_name_of table_name_of
+negative_count = refl
+
+unknown_field : begin (asked None (Some (record { selected_fields = codes "ID" ∷ codes "no" ∷ []; row_restriction = codes "(" }))) (pos 0) ≡ refused_for (why.UnknownColumn (codes "no"))
+unfolding project_name_of table_name_of
+unknown_field = refl
+
+-- ---- ReadRows and SplitReadStream
+
+-- the first table has no session yet, and there is no second table
+abbrev read_of : List ℕ → Plan Answer
+read_of name = read_by specs (Ok (record { read_stream = name; offset = negsuc 0 }))
+
+no_session : first_answer (read_of (codes "projects/q/locations/local/sessions/t0-1/streams/0")) ≡ status_only 5 (codes "no such read stream")
+unfolding read_name_of place_of number_of digits read_answer session_of
+no_session = refl
+
+no_second_table : read_of (codes "projects/q/locations/local/sessions/t1-1/streams/0") ≡ Fixed (status_only 5 (codes "no such read stream"))
+unfolding read_name_of place_of number_of digits
+no_second_table = refl
+
+elsewhere : split_by specs (Ok (record { name = codes "projects/q/locations/us/sessions/t0-1/streams/0" })) ≡ Fixed (status_only 5 (codes "no such read stream"))
+unfolding read_name_of place_of
+elsewhere = refl
+
+no_read_name : split_by specs (Ok (record { name = codes "projects/q/locations/local/sessions/t0-1" })) ≡ Fixed (status_only 3 (codes "bad resource name"))
+unfolding read_name_of
+no_read_name = refl

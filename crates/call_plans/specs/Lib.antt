@@ -11,6 +11,11 @@ pub mod Flushing
 pub mod Twice
 pub mod Committed
 pub mod Committing
+pub mod ReadNames
+pub mod Snapshots
+pub mod Sessions
+pub mod Splitting
+pub mod Reading
 pub mod Plans
 pub mod Replies
 pub mod Laws

@@ -39,6 +39,17 @@ is_stream (reply.Stream kind created committed) = true
 is_stream (reply.Refused refusal) = true
 is_stream _ = false
 
+abbrev pub is_begin : Reply → Bool
+is_begin (reply.Session number roots expires) = true
+is_begin (reply.Refused refusal) = true
+is_begin _ = false
+
+abbrev pub is_split : Reply → Bool
+is_split (reply.Children left right) = true
+is_split reply.NoSplit = true
+is_split (reply.Refused refusal) = true
+is_split _ = false
+
 -- the reply is one to the command
 abbrev pub is_reply : Command → Reply → Bool
 is_reply (command.Create kind) told = is_creation told
@@ -47,6 +58,8 @@ is_reply (command.Flush on offset) told = is_flush told
 is_reply (command.Finalise on) told = is_end told
 is_reply (command.Commit streams) told = is_commit told
 is_reply (command.Get on) told = is_stream told
+is_reply (command.Session pred fields count snapshot) told = is_begin told
+is_reply (command.Split session node) told = is_split told
 
 abbrev pub RepliesInKind : Type 0
 RepliesInKind = (columns : ℕ) (history : History) (caller : ℕ) (asked : Command) (now : ℤ) → is_reply asked (reply_of (answer_of columns history caller asked now)) ≡ true

@@ -14,7 +14,8 @@ use Rattle.table_model.specs.declared.streams.StreamRef.{StreamRef}
 use Rattle.table_model.specs.declared.streams.StreamState.{StreamState}
 use Rattle.table_model.specs.Answer.{or_refuse, entry_of, moment_at, entries_rules, commit_answer, answer_by, answer_of}
 use Rattle.table_model.specs.Checks.{commit_check, commit_rules, error_at, stream_code, stream_errors}
-use Rattle.table_model.specs.Facts.{facts_of, state_of}
+use Rattle.table_model.specs.Facts.{facts_of}
+use Rattle.table_model.specs.Look.{Look, look_of}
 use Rattle.table_model.specs.History.{History}
 use Rattle.table_model.specs.Reasons.{refusal_of}
 use Rattle.table_model.specs.Rules.{Rule, unless}
@@ -73,9 +74,9 @@ commit_codes facts streams (Ok []) now all = accepted (unless (entries_rules fac
     accepted (Err refusal) = tt
 commit_codes facts streams (Ok (error ∷ errors)) now all = All-from_recursion IsCode (error ∷ errors) all
 
-by_codes : (facts : Facts) (look : StreamRef → Option StreamState) (streams : List StreamRef) (now : ℤ) → HasCodes (reply_of (answer_by facts look (command.Commit streams) now))
+by_codes : (facts : Facts) (look : Look) (streams : List StreamRef) (now : ℤ) → HasCodes (reply_of (answer_by facts look (command.Commit streams) now))
 unfolding answer_by
-by_codes facts look streams now = commit_codes facts streams (commit_check look streams) now (unless-are (commit_rules streams) (stream_errors look streams) (errors_are look streams))
+by_codes facts look streams now = commit_codes facts streams (commit_check look.stream streams) now (unless-are (commit_rules streams) (stream_errors look.stream streams) (errors_are look.stream streams))
 
 pub replies_have_codes : (columns : ℕ) (history : History) (caller : ℕ) (streams : List StreamRef) (now : ℤ) → HasCodes (reply_of (answer_of columns history caller (command.Commit streams) now))
-replies_have_codes columns history caller streams now = by_codes (facts_of columns history caller) (λ on. state_of history on) streams now
+replies_have_codes columns history caller streams now = by_codes (facts_of columns history caller) (look_of history) streams now

@@ -4,3 +4,5 @@ mod StreamLemmas
 mod UnknownLemmas
 mod CodeLemmas
 mod CommitLemmas
+pub mod HeldLemmas
+pub mod SessionLemmas

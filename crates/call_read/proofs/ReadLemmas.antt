@@ -23,3 +23,9 @@ pub unread : {X : Type 0} (by : Result X MsgFault → Plan Answer) (passes : Lis
 unread by passes now broken read (Err memory) e reads value is = tt
 unread by passes now broken read (Ok given) e reads value is =
     subst (λ (plan : Plan Answer). Gets passes plan now given passes) (sym (subst (λ r. by r ≡ Fixed (unreadable broken)) (sym (read_err broken read is reads)) e)) (value, refl)
+
+-- a plan that asks no table gets its answer
+pub gets-fixed : (passes : List TableView) (now : ℤ) (plan : Plan Answer) (due : Answer) (result : Result Answer Memory) → plan ≡ Fixed due
+    → IfOk result (λ given. given ≡ due) → IfOk result (λ given. Gets passes plan now given passes)
+gets-fixed passes now plan due (Ok given) is value = subst (λ (p : Plan Answer). Gets passes p now given passes) (sym is) (value, refl)
+gets-fixed passes now plan due (Err memory) is value = tt

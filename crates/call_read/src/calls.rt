@@ -13,6 +13,9 @@ use crate::creating::create;
 use crate::finalising::finalise;
 use crate::flushing::flush;
 use crate::getting::get;
+use crate::reading::read;
+use crate::sessions::create_session;
+use crate::splitting::split;
 use conn_requests::{Answer, Over};
 use grpc_meta::Method;
 use open_tables::{Passes, Tables};
@@ -22,7 +25,7 @@ use std::sync::Wait;
 
 /// Answers a call with its one message by its plan. `now` is a reading of the clock, in microseconds since 1970-01-01.
 ///
-/// The methods of BigQueryRead aren't served, and an AppendRows call has no one message: status 12, UNIMPLEMENTED.
+/// An AppendRows call has no one message: status 12, UNIMPLEMENTED.
 ///
 /// At want of memory the answer is lost: nothing was entered, or all but the answer was done.
 pub fn call<R: Wait>(
@@ -47,9 +50,9 @@ pub fn call<R: Wait>(
         Method::FinalizeWriteStream => finalise(tables, rt, alloc, passes, message, now),
         Method::FlushRows => flush(tables, rt, alloc, passes, message, now),
         Method::BatchCommitWriteStreams => commit(tables, rt, alloc, passes, message, now),
-        Method::AppendRows
-        | Method::CreateReadSession
-        | Method::ReadRows
-        | Method::SplitReadStream => (passes, Over::UnknownMethod.answer(alloc)),
+        Method::CreateReadSession => create_session(tables, rt, alloc, passes, message, now),
+        Method::ReadRows => read(tables, rt, alloc, passes, message, now),
+        Method::SplitReadStream => split(tables, rt, alloc, passes, message, now),
+        Method::AppendRows => (passes, Over::UnknownMethod.answer(alloc)),
     }
 }

@@ -27,7 +27,7 @@ use Rattle.conn_requests.specs.declared.asks.Ask.TheVariants as ask
 use Rattle.conn_requests.specs.declared.asks.Over.TheVariants as over_by
 use Rattle.conn_requests.specs.declared.answers.Answer.{Answer}
 use Rattle.conn_requests.specs.declared.answers.Answer.TheVariants as answer
-use Rattle.conn_requests.specs.Methods.{served_in}
+use Rattle.grpc_meta.specs.Request.{method_in}
 use Rattle.conn_requests.specs.Names.{Named, nothing_named, named_after}
 use Rattle.conn_requests.specs.Body.{Body, asks_of, body_after}
 use Rattle.conn_requests.specs.Ends.{over_of, lost_answer}
@@ -239,7 +239,7 @@ request-unanswered q id fields ended (Ok m) none = body-unanswered q id [] ended
 request-unanswered q id fields ended (Err refused) none = decide_all-unanswered q id nothing_named (map ask.Ends (option_to_list (over_of refused))) None none
 
 pub hear-unanswered : (q : Played) (told : Event) → q.later ≡ [] → Unanswered q (hear q told)
-hear-unanswered q (event.Opened id fields ended) none = request-unanswered q id fields ended (served_in fields) none
+hear-unanswered q (event.Opened id fields ended) none = request-unanswered q id fields ended (method_in fields) none
 hear-unanswered q (event.TooLarge id) none = decide_all-unanswered q id nothing_named (ask.Ends over_by.ListTooLarge ∷ []) None none
 hear-unanswered q (event.Body id bytes ended) none = body-unanswered q id bytes ended (q.calls id) none
 hear-unanswered q (event.Ended id) none = body-unanswered q id [] true (q.calls id) none

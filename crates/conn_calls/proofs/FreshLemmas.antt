@@ -25,7 +25,7 @@ use Rattle.h2_record.specs.Resets.{reset_by, resets_of, is_live}
 use Rattle.conn_requests.specs.declared.asks.Ask.{Ask}
 use Rattle.conn_requests.specs.declared.asks.Ask.TheVariants as ask
 use Rattle.conn_requests.specs.declared.asks.Over.TheVariants as over
-use Rattle.conn_requests.specs.Methods.{served_in}
+use Rattle.grpc_meta.specs.Request.{method_in}
 use Rattle.conn_requests.specs.Names.{Named, nothing_named, named_after}
 use Rattle.conn_requests.specs.Body.{Body, asks_of, body_after}
 use Rattle.conn_requests.specs.Ends.{over_of}
@@ -316,7 +316,7 @@ module _ (T : ℕ → Type 0) where
   request-told p id fields ended (Err refused) here t = decide_all-told p id nothing_named (map ask.Ends (option_to_list (over_of refused))) None here t
 
   hear-told : (p : Played) (told : Event) → ((id : ℕ) → IsRequest id told → T id) → IsTold T p → IsTold T (hear p told)
-  hear-told p (event.Opened id fields ended) here t = request-told p id fields ended (served_in fields) (here id refl) t
+  hear-told p (event.Opened id fields ended) here t = request-told p id fields ended (method_in fields) (here id refl) t
   hear-told p (event.TooLarge id) here t = decide_all-told p id nothing_named (ask.Ends over.ListTooLarge ∷ []) None (here id refl) t
   hear-told p (event.Body id bytes ended) here t = body-told p id bytes ended (p.calls id) (t.calls id) t
   hear-told p (event.Ended id) here t = body-told p id [] true (p.calls id) (t.calls id) t

@@ -22,7 +22,7 @@ use Rattle.open_tables.specs.Tables.{TableView}
 use Rattle.conn_requests.specs.declared.asks.Ask.{Ask}
 use Rattle.conn_requests.specs.declared.asks.Ask.TheVariants as ask
 use Rattle.conn_requests.specs.declared.asks.Over.{Over}
-use Rattle.conn_requests.specs.Methods.{served_in}
+use Rattle.grpc_meta.specs.Request.{method_in}
 use Rattle.conn_requests.specs.Names.{Named, nothing_named}
 use Rattle.conn_requests.specs.Body.{Body, asks_of, body_after}
 use Rattle.conn_requests.specs.Ends.{over_of}
@@ -195,11 +195,11 @@ module _ (plan : Planning) (s : Start) (id : ℕ) (after : List TableView) (read
       ap (λ (h : CallHeld). hear_body q id [] ended (Some (record { body = h.body; named = nothing_named }))) same
   opened fields (Err refused) call ended q is = absurd cc
 
-  pub request-opened : (fields : List Field) (ended : Bool) (call : CallHeld) (named : Named) → held_by fields (served_in fields) ≡ Ok call → named ≡ nothing_named
+  pub request-opened : (fields : List Field) (ended : Bool) (call : CallHeld) (named : Named) → held_by fields (method_in fields) ≡ Ok call → named ≡ nothing_named
       → Answering plan s id after readings conn begun (requests id fields ended) → Answering plan s id after readings conn begun (bodies id [] ended (record { body = call.body; named = named }))
   request-opened fields ended call named is none w =
       answering-by (requests id fields ended) (bodies id [] ended (record { body = call.body; named = named })) w
-      (λ q calls. opened fields (served_in fields) call ended q is ∙ ap (λ n. hear_body q id [] ended (Some (record { body = call.body; named = n }))) (sym none))
+      (λ q calls. opened fields (method_in fields) call ended q is ∙ ap (λ n. hear_body q id [] ended (Some (record { body = call.body; named = n }))) (sym none))
 
   refused : (fields : List Field) (m : Result Method MetaFault) (fault : MetaFault) (ended : Bool) (q : Played) → held_by fields m ≡ Err fault
       → hear_request q id fields ended m ≡ refuse q id (map ask.Ends (option_to_list (over_of fault)))
@@ -208,11 +208,11 @@ module _ (plan : Planning) (s : Start) (id : ℕ) (after : List TableView) (read
       let same : f ≡ fault = cc in
       ap (λ x. refuse q id (map ask.Ends (option_to_list (over_of x)))) same
 
-  pub request-refused : (fields : List Field) (ended : Bool) (fault : MetaFault) (found : Option Over) → held_by fields (served_in fields) ≡ Err fault → over_of fault ≡ found
+  pub request-refused : (fields : List Field) (ended : Bool) (fault : MetaFault) (found : Option Over) → held_by fields (method_in fields) ≡ Err fault → over_of fault ≡ found
       → Answering plan s id after readings conn begun (requests id fields ended) → Answering plan s id after readings conn begun (refuses id (map ask.Ends (option_to_list found)))
   request-refused fields ended fault found is over_is w =
       answering-by (requests id fields ended) (refuses id (map ask.Ends (option_to_list found))) w
-      (λ q calls. refused fields (served_in fields) fault ended q is ∙ ap (λ x. refuse q id (map ask.Ends (option_to_list x))) over_is)
+      (λ q calls. refused fields (method_in fields) fault ended q is ∙ ap (λ x. refuse q id (map ask.Ends (option_to_list x))) over_is)
 
 pub opened-begun : (fields : List Field) (m : Result Method MetaFault) (call : CallHeld) → held_by fields m ≡ Ok call → call.begun ≡ false
 opened-begun fields (Ok m) call is = let same : new_held m fields ≡ call = cc in ap (λ (h : CallHeld). h.begun) (sym same)

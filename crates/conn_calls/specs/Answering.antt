@@ -13,7 +13,7 @@ use Rattle.open_tables.specs.Tables.{TableView}
 use Rattle.open_tables.specs.Plans.{Plan, Gets, Loses}
 use Rattle.conn_requests.specs.declared.asks.Ask.{Ask}
 use Rattle.conn_requests.specs.declared.answers.Answer.{Answer}
-use Rattle.conn_requests.specs.Methods.{served_in}
+use Rattle.grpc_meta.specs.Request.{method_in}
 use Rattle.conn_requests.specs.Body.{Body}
 use Rattle.conn_requests.specs.Ends.{lost_answer}
 use Rattle.conn_requests.specs.Given.{is_lost, parts_of}
@@ -137,7 +137,7 @@ bodies_on id bytes ended q = hear_body q id bytes ended (q.calls id)
 
 -- what a request's fields decide
 abbrev pub requests : (stream : ℕ) → List Field → (ended : Bool) → Played → Played
-requests id fields ended q = hear_request q id fields ended (served_in fields)
+requests id fields ended q = hear_request q id fields ended (method_in fields)
 
 -- what a request decides that opens no call
 abbrev pub refuses : (stream : ℕ) → List Ask → Played → Played

@@ -18,7 +18,7 @@ use Rattle.open_tables.specs.Tables.{TableView}
 use Rattle.conn_requests.specs.declared.asks.Ask.{Ask}
 use Rattle.conn_requests.specs.declared.asks.Ask.TheVariants as ask
 use Rattle.conn_requests.specs.declared.asks.Over.TheVariants as over
-use Rattle.conn_requests.specs.Methods.{served_in}
+use Rattle.grpc_meta.specs.Request.{method_in}
 use Rattle.conn_requests.specs.Names.{Named, nothing_named, named_after}
 use Rattle.conn_requests.specs.Body.{Body, asks_of, body_after}
 use Rattle.conn_requests.specs.Ends.{over_of}
@@ -88,7 +88,7 @@ module _ (p : Played) where
   request-none q id fields ended (Err refused) none = decide-all-none q id nothing_named (map ask.Ends (option_to_list (over_of refused))) None none
 
   hear-none : (q : Played) (e : Event) → IsUnanswered p q → IsUnanswered p (hear q e)
-  hear-none q (event.Opened id fields ended) none = request-none q id fields ended (served_in fields) none
+  hear-none q (event.Opened id fields ended) none = request-none q id fields ended (method_in fields) none
   hear-none q (event.TooLarge id) none = decide-all-none q id nothing_named (ask.Ends over.ListTooLarge ∷ []) None none
   hear-none q (event.Body id bytes ended) none = body-none q id bytes ended (q.calls id) none
   hear-none q (event.Ended id) none = body-none q id [] true (q.calls id) none

@@ -10,7 +10,7 @@ use Rattle.grpc_meta.specs.declared.methods.Method.TheVariants as method
 use Rattle.conn_requests.specs.declared.asks.Ask.{Ask}
 use Rattle.conn_requests.specs.declared.asks.Ask.TheVariants as ask
 use Rattle.conn_requests.specs.declared.asks.Over.TheVariants as over
-use Rattle.conn_requests.specs.Methods.{is_coded}
+use Rattle.conn_requests.specs.Codings.{is_coded}
 use Rattle.conn_requests.specs.Body.{Body, new_body, asks_of, body_after}
 
 abbrev appending : Body

@@ -13,7 +13,7 @@ use Rattle.h2_record.specs.Texts.{given_text}
 use Rattle.conn_requests.specs.declared.asks.Ask.{Ask}
 use Rattle.conn_requests.specs.declared.asks.Ask.TheVariants as ask
 use Rattle.conn_requests.specs.declared.asks.Over.TheVariants as over
-use Rattle.conn_requests.specs.Methods.{served_in}
+use Rattle.grpc_meta.specs.Request.{method_in}
 use Rattle.conn_requests.specs.Names.{Named, nothing_named, named_after}
 use Rattle.conn_requests.specs.Body.{Body, asks_of, body_after}
 use Rattle.conn_requests.specs.Ends.{over_of}
@@ -123,7 +123,7 @@ module _ (answers : List Answered) (frames : Record) where
       decide_all-played p id nothing_named (map ask.Ends (option_to_list (over_of refused))) None played
 
   hear-played : (p : Played) (e : Event) → IsPlayed answers frames p → IsPlayed answers frames (hear p e)
-  hear-played p (event.Opened id fields ended) played = hear_request-played p id fields ended (served_in fields) played
+  hear-played p (event.Opened id fields ended) played = hear_request-played p id fields ended (method_in fields) played
   hear-played p (event.TooLarge id) played = decide_all-played p id nothing_named (ask.Ends over.ListTooLarge ∷ []) None played
   hear-played p (event.Body id bytes ended) played = hear_body-played p id bytes ended (p.calls id) played
   hear-played p (event.Ended id) played = hear_body-played p id [] true (p.calls id) played

@@ -33,7 +33,7 @@ use Rattle.conn_requests.specs.declared.asks.Ask.TheVariants as ask
 use Rattle.conn_requests.specs.declared.asks.Over.TheVariants as over
 use Rattle.conn_requests.specs.declared.answers.Answer.{Answer}
 use Rattle.conn_requests.specs.declared.answers.Answer.TheVariants as answer
-use Rattle.conn_requests.specs.Methods.{is_coded}
+use Rattle.conn_requests.specs.Codings.{is_coded}
 use Rattle.conn_requests.specs.Names.{Named, nothing_named, named_with}
 use Rattle.conn_requests.specs.Body.{asks_of, body_after}
 use Rattle.conn_requests.specs.Ends.{end_answer, lost_answer}
@@ -94,12 +94,16 @@ getting : decided_of get_record [] ≡ ends (ask.Call method.GetWriteStream get)
 unfolding play take_frame asks_of body_after is_coded named_with fault_by reset_by reset_behind is_live_with early_fault late_fault block_from fields_from field_at literal_at indexed_at string_at name_at entry_at static_table newest list_size is_bad is_pseudo has_late_pseudo has_unknown_pseudo is_repeated is_missing has_empty_path is_malformed path_of methods is_post is_grpc method_named split_of part_of frame prefix_of
 getting = refl
 
+reading : decided_of (In (body true (frame get)) ∷ opened read_path) [] ≡ ends (ask.Call method.ReadRows get)
+unfolding play take_frame asks_of body_after is_coded named_with fault_by reset_by reset_behind is_live_with early_fault late_fault block_from fields_from field_at literal_at indexed_at string_at name_at entry_at static_table newest list_size is_bad is_pseudo has_late_pseudo has_unknown_pseudo is_repeated is_missing has_empty_path is_malformed path_of methods is_post is_grpc method_named split_of part_of frame prefix_of
+reading = refl
+
 -- the mark of a whole request stands behind its frame, and the answer behind that
 getting_marked : (play (answered nothing_named (ask.Call method.GetWriteStream get) got ∷ []) get_record).marked ≡ Given 1 (Tail (trailers (record { code = 0; text = [] }))) ∷ Given 1 (Reply (frame (5 ∷ []))) ∷ Given 1 (Head response_head false) ∷ Whole ∷ get_record
 unfolding play take_frame asks_of body_after is_coded named_with fault_by reset_by reset_behind is_live_with early_fault late_fault block_from fields_from field_at literal_at indexed_at string_at name_at entry_at static_table newest list_size is_bad is_pseudo has_late_pseudo has_unknown_pseudo is_repeated is_missing has_empty_path is_malformed path_of methods is_post is_grpc method_named split_of part_of frame prefix_of
 getting_marked = refl
 
--- with the header block: the method of HTTP, the content type, the path, and a method that isn't served yet
+-- with the header block: the method of HTTP, the content type and the path
 not_post : decided_of (opened_by (fields 130 get_path ++ content_type)) [] ≡ ends (ask.Ends over.NotPost)
 unfolding play take_frame asks_of body_after is_coded named_with fault_by reset_by reset_behind is_live_with early_fault late_fault block_from fields_from field_at literal_at indexed_at string_at name_at entry_at static_table newest list_size is_bad is_pseudo has_late_pseudo has_unknown_pseudo is_repeated is_missing has_empty_path is_malformed path_of methods is_post is_grpc method_named split_of part_of frame prefix_of
 not_post = refl
@@ -111,10 +115,6 @@ not_grpc = refl
 unknown_path : decided_of (opened (codes "/x")) [] ≡ ends (ask.Ends over.UnknownMethod)
 unfolding play take_frame asks_of body_after is_coded named_with fault_by reset_by reset_behind is_live_with early_fault late_fault block_from fields_from field_at literal_at indexed_at string_at name_at entry_at static_table newest list_size is_bad is_pseudo has_late_pseudo has_unknown_pseudo is_repeated is_missing has_empty_path is_malformed path_of methods is_post is_grpc method_named split_of part_of frame prefix_of
 unknown_path = refl
-
-not_served : decided_of (opened read_path) [] ≡ ends (ask.Ends over.UnknownMethod)
-unfolding play take_frame asks_of body_after is_coded named_with fault_by reset_by reset_behind is_live_with early_fault late_fault block_from fields_from field_at literal_at indexed_at string_at name_at entry_at static_table newest list_size is_bad is_pseudo has_late_pseudo has_unknown_pseudo is_repeated is_missing has_empty_path is_malformed path_of methods is_post is_grpc method_named split_of part_of frame prefix_of
-not_served = refl
 
 -- a malformed request is reset, and decides nothing
 malformed : decided_of (opened_by (131 ∷ 134 ∷ [])) [] ≡ []

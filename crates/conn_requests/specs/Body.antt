@@ -16,7 +16,7 @@ use Rattle.conn_requests.specs.declared.kinds.Kind.{Kind}
 use Rattle.conn_requests.specs.declared.kinds.Kind.TheVariants as kind
 use Rattle.conn_requests.specs.declared.kinds.Sole.{Sole}
 use Rattle.conn_requests.specs.declared.kinds.Sole.TheVariants as sole
-use Rattle.conn_requests.specs.Methods.{is_coded}
+use Rattle.conn_requests.specs.Codings.{is_coded}
 
 pub record Body : Type 0 where
   -- the method, and the messages of a call that wants one

@@ -18,7 +18,7 @@ use Rattle.conn_requests.specs.declared.asks.Ask.{Ask}
 use Rattle.conn_requests.specs.declared.asks.Ask.TheVariants as ask
 use Rattle.conn_requests.specs.declared.asks.Over.TheVariants as over
 use Rattle.conn_requests.specs.declared.answers.Answer.{Answer}
-use Rattle.conn_requests.specs.Methods.{served_in}
+use Rattle.grpc_meta.specs.Request.{method_in}
 use Rattle.conn_requests.specs.Names.{Named, nothing_named, named_after}
 use Rattle.conn_requests.specs.Body.{Body, new_body, asks_of, body_after}
 use Rattle.conn_requests.specs.Ends.{over_of}
@@ -130,7 +130,7 @@ hear_request p id fields ended (Err refused) = refuse p id (map ask.Ends (option
 
 -- trailers end a body as END_STREAM does
 abbrev pub hear : Played → Event → Played
-hear p (event.Opened id fields ended) = hear_request p id fields ended (served_in fields)
+hear p (event.Opened id fields ended) = hear_request p id fields ended (method_in fields)
 hear p (event.TooLarge id) = refuse p id (ask.Ends over.ListTooLarge ∷ [])
 hear p (event.Body id bytes ended) = hear_body p id bytes ended (p.calls id)
 hear p (event.Ended id) = hear_body p id [] true (p.calls id)

@@ -4,7 +4,7 @@ use Rattle.hpack_blocks.specs.declared.fields.Field.{Field}
 use Rattle.grpc_meta.specs.declared.methods.Method.{Method}
 use Rattle.grpc_meta.specs.declared.requests.MetaFault.{MetaFault}
 use Rattle.conn_requests.specs.Body.{Body, new_body}
-use Rattle.conn_requests.specs.Methods.{served_in}
+use Rattle.grpc_meta.specs.Request.{method_in}
 
 pub record Held : Type 0 where
   pub body : Body
@@ -20,4 +20,4 @@ held_by fields (Err refused) = Err refused
 
 -- what a request's fields open
 abbrev pub held_in : List Field → Result Held MetaFault
-held_in fields = held_by fields (served_in fields)
+held_in fields = held_by fields (method_in fields)

@@ -1,4 +1,4 @@
-pub mod Methods
+pub mod Codings
 pub mod Names
 pub mod Body
 pub mod Held

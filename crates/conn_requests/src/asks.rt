@@ -18,7 +18,7 @@ pub enum Over {
     Compressed,
     /// A message is compressed by a coding that the call names. It comes with the message's flag.
     Coded,
-    /// The path is that of no method, or of one that isn't served yet.
+    /// The path is that of no method.
     UnknownMethod,
     /// The method of HTTP isn't POST.
     NotPost,

@@ -6,11 +6,11 @@ ghost use Rattle.conn_requests.specs.Held.{held_in};
 
 use crate::asks::Ask;
 use crate::body::hear_rest;
+use crate::codings::is_coded;
 use crate::kinds::{Kind, Sole};
 use crate::messages::hear_messages;
-use crate::methods::{is_coded, served_method};
 use grpc_frame::{Deframer, MESSAGE_LIMIT};
-use grpc_meta::{MetaFault, Method};
+use grpc_meta::{MetaFault, Method, method_of};
 use hpack_blocks::Field;
 use outside::Memory;
 use std::alloc::Global;
@@ -54,7 +54,7 @@ impl Call {
     pub fn open(alloc: Global, fields: &[Field]) -> Result<Call, MetaFault>
         ensures { result ≡ held_in fields.now }
     {
-        let method = served_method(fields)?;
+        let method = method_of(fields)?;
         Ok(Call {
             kind: kind_of(method),
             is_coded: is_coded(fields),

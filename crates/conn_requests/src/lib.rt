@@ -14,11 +14,11 @@ mod answers;
 mod asks;
 mod body;
 mod call;
+mod codings;
 mod ends;
 mod kinds;
 mod laws;
 mod messages;
-mod methods;
 
 pub use answers::{Answer, HttpStatus};
 pub use asks::{Ask, Over};
