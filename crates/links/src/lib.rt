@@ -7,7 +7,7 @@
 //! wasn't ready, and a count of faults that never falls. A [`Clock`] has its readings, where they are
 //! told. A [`Gate`] means nothing to any contract; by it a test holds a connection.
 //!
-//! In memory there are [`MemLink`], [`MemClock`] and [`OpenGate`]. [`StdLink`] is a link over a reader
+//! In memory there are [`MemLink`], [`MemClock`], [`OpenGate`] and [`ScriptGate`]. [`StdLink`] is a link over a reader
 //! and a writer of std, and [`SystemClock`] reads the machine's clock. [`write_all`] and
 //! [`read_at_most`] move a buffer's bytes over any link.
 #![tactic(auto)]
@@ -18,6 +18,7 @@ mod link;
 mod memory_clocks;
 mod memory_links;
 mod pieces;
+mod script_gates;
 mod scripts;
 mod std_links;
 mod system_clocks;
@@ -29,5 +30,6 @@ pub use link::{Link, LinkFailed, LinkRead, LinkWrite};
 pub use memory_clocks::MemClock;
 pub use memory_links::MemLink;
 pub use pieces::{Written, read_at_most, write_all};
+pub use script_gates::{Hold, ScriptGate};
 pub use std_links::StdLink;
 pub use system_clocks::SystemClock;

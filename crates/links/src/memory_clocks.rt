@@ -7,6 +7,7 @@ ghost use Rattle.links.specs.Clock.{clamped, reading_at, told_by};
 ghost use Rattle.links.specs.declared.clocks.TheConstants.{LATEST_READING as latest};
 
 use super::clocks::{Clock, LATEST_READING};
+use std::alloc::AllocError;
 use std::marker::Model;
 
 /// A clock in memory, which gives its times one after another.
@@ -33,6 +34,18 @@ impl MemClock {
         ensures { result ≡ record { times = times.items; count = 0 } }
     {
         MemClock { times, count: 0 }
+    }
+}
+
+/// A clone has the same times, and made as many readings. Those that follow are its own.
+impl Clone for MemClock {
+    ghost is_clone = { λ clock clone. clone ≡ clock };
+
+    fn clone(&self) -> Result<MemClock, AllocError> {
+        Ok(MemClock {
+            times: self.times.clone()?,
+            count: self.count,
+        })
     }
 }
 

@@ -6,6 +6,7 @@ ghost use Rattle.links.specs.Clock.{clamped};
 ghost use Rattle.links.specs.declared.clocks.TheConstants.{LATEST_READING as latest};
 
 use super::clocks::{Clock, LATEST_READING};
+use std::alloc::AllocError;
 use std::io;
 use std::time::{self, Duration};
 
@@ -24,6 +25,18 @@ impl<C: time::Clock> SystemClock<C> {
     /// The clock of this machine, as `&rt`.
     pub fn new(machine: C) -> SystemClock<C> {
         SystemClock { machine, last: 0 }
+    }
+}
+
+/// A clone has the same last reading.
+impl<C: time::Clock + Clone> Clone for SystemClock<C> {
+    ghost is_clone = { λ clock clone. clone.last ≡ clock.last };
+
+    fn clone(&self) -> Result<SystemClock<C>, AllocError> {
+        Ok(SystemClock {
+            machine: self.machine.clone()?,
+            last: self.last,
+        })
     }
 }
 
