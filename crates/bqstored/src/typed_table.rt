@@ -37,10 +37,14 @@ pub struct TypedTable {
 
 impl Model for TypedTable {
     ghost use Rattle.std.specs.Prelude.{IfOk};
+    ghost use Rattle.std.specs.Coded.{codes};
+    ghost use Rattle.column_types.specs.contracts.predicate.Pred as pred_code;
     ghost use Rattle.row_descriptor.specs.Binding.{IsBoundTo};
     ghost use Rattle.bqstored.specs.Typed.{Call};
 
     ghost Value = { Call };
+
+    ghost coded = { Prim.hlevel (codes, pred_code.the_row.coded) };
 
     ghost view = { λ t. record { table = t.table; writer = t.writer } };
 

@@ -3,4 +3,3 @@ pub mod ServeLemmas
 pub mod SplitLemmas
 pub mod WorkLemmas
 pub mod AskLemmas
-pub mod CrewLemmas

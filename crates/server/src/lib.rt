@@ -3,16 +3,14 @@
 //! [`serve`] listens, takes the links that the door gives, serves and closes each, and hands it back. How one connection
 //! ended changes nothing for the others. Then [`report`] closes the tables and writes a line for each.
 //!
-//! The pieces of many workers on threads stand beside it, and [`serve`] doesn't call them yet: passes are split and joined
-//! (splits), a worker serves jobs until their queue is closed (workers), and the door is asked on one thread while the
-//! workers serve on theirs (asking, crew).
+//! Pieces of many workers on threads stand beside it, and [`serve`] doesn't call them yet: passes are split and joined
+//! (splits), a worker serves jobs until their queue is closed (workers), and the door is asked for jobs (asking).
 //!
 //! `specs/Visits` says what it is that links were served one after another, `specs/Report` what is written of closed
 //! tables, and `specs/Serving` what `serve` does, for any number of workers.
 #![tactic(auto)]
 
 mod asking;
-mod crew;
 mod faults;
 mod lines;
 mod reports;
