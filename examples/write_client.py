@@ -1,8 +1,8 @@
 """The write service of the BigQuery Storage API for Python: its messages, which protoc makes of the .proto files beside
 this one when it is imported, and its methods over a channel of gRPC.
 
-It needs protoc and the packages grpcio and protobuf. Debian has them as protobuf-compiler, python3-grpcio and
-python3-protobuf, for its own /usr/bin/python3. A project would run protoc once and keep what it makes."""
+It needs protoc and the packages grpcio and protobuf. Debian has them as protobuf-compiler with
+libprotobuf-dev, python3-grpcio and python3-protobuf, for its own /usr/bin/python3. A project would run protoc once and keep what it makes."""
 import os
 import pathlib
 import subprocess

@@ -1,7 +1,8 @@
-// A load driver for a server of the write service on this machine, over libnghttp2. PID is the server's.
+// A load driver for a server of the read and write services on this machine, over libnghttp2. PID is the server's.
 //
 //     driver PORT PID append TABLE ROWS BATCH SIZE CONNECTIONS
 //     driver PORT PID get TABLE CALLS
+//     driver PORT PID read TABLE ROWS SIZE TIMES STREAMS RESTRICTION COLUMNS DUE
 //
 // `append` opens its connections at once, a thread for each. Connection i makes a COMMITTED stream of the table whose name
 // is TABLE and the digit i, with the columns id:INT64:REQUIRED,tag:STRING, and appends its share of the rows, each of SIZE
@@ -10,6 +11,13 @@
 //
 // `get` asks for the default stream of table 0, one call after another. It prints microseconds: of the median call, of the
 // 99th of a hundred, and of the server's processor time for a call.
+//
+// `read` appends the rows in messages of 1,000, in each with the ids 0 to 999, as the first connection of `append` would.
+// Then it makes a session of so many read streams over what the restriction keeps, with the columns that are named and
+// parted by commas, or with all, and reads its streams at once, each in a call of its own on the same connection, with the
+// widest windows; so often, one session after another. The rows of each must be DUE. It prints seconds: of the whole, of
+// the server's processor time and of its own; then by how many kilobytes the server's resident memory was at its peak above
+// that before the first session; and the bytes of the rows of one session.
 //
 // Where a call fails or a response isn't the one that is due, the status is 1.
 #define _GNU_SOURCE
@@ -28,8 +36,10 @@
 #include <unistd.h>
 
 enum { PIECE = 65536, PREFIX = 5, UNANSWERED = 32, MOST_CONNECTIONS = 8, WARM_UP = 100, SECONDS = 300 };
+enum { READ_BATCH = 1000, MOST_STREAMS = 100, MOST_TIMES = 1000 };
 enum { WINDOW = 0x7fffffff, FIRST_WINDOW = 65535 };
 #define SERVICE "/google.cloud.bigquery.storage.v1.BigQueryWrite/"
+#define READ_SERVICE "/google.cloud.bigquery.storage.v1.BigQueryRead/"
 
 struct bytes {
   uint8_t *at;
@@ -45,9 +55,16 @@ struct appends {
   size_t head_len, sent;
 };
 
-// A call: the messages that it sends, one or many, and the bytes that came and aren't read.
+// The rows that came in read calls, and their bytes.
+struct rows {
+  uint64_t count, bytes;
+};
+
+// A call: the messages that it sends, one or many, and the bytes that came and aren't read. An append call has appends, and
+// a read call rows.
 struct call {
   struct appends *appends;
+  struct rows *rows;
   struct bytes request, response;
   size_t sent;
   int is_deferred, is_good, has_ended;
@@ -60,7 +77,15 @@ struct link {
   size_t written;
 };
 
+// A field of a message: a number, or so many bytes.
+struct field {
+  unsigned number;
+  uint64_t value;
+  const uint8_t *at;
+};
+
 static struct sockaddr_in server;
+static int process;
 static const char *table;
 
 static void fail(const char *what) {
@@ -104,6 +129,15 @@ static uint64_t take_varint(const uint8_t **at, const uint8_t *end) {
   return 0;
 }
 
+// The next field of a message that isn't at its end.
+static struct field take_field(const uint8_t **at, const uint8_t *end) {
+  uint64_t tag = take_varint(at, end);
+  struct field field = {.number = (unsigned)(tag >> 3), .value = take_varint(at, end), .at = *at};
+  if ((tag & 7) != 0 && ((tag & 7) != 2 || field.value > (uint64_t)(end - *at))) fail("a response can't be read");
+  if ((tag & 7) == 2) *at += field.value;
+  return field;
+}
+
 static void put_number(struct bytes *out, unsigned field, uint64_t n) {
   uint8_t head[16] = {(uint8_t)(field * 8)};
   add(out, head, 1 + put_varint(head + 1, n));
@@ -113,6 +147,10 @@ static void put_payload(struct bytes *out, unsigned field, const void *from, siz
   uint8_t head[16] = {(uint8_t)(field * 8 + 2)};
   add(out, head, 1 + put_varint(head + 1, len));
   add(out, from, len);
+}
+
+static void put_text(struct bytes *out, unsigned field, const char *text) {
+  put_payload(out, field, text, strlen(text));
 }
 
 static void put_prefix(uint8_t *out, size_t len) {
@@ -150,7 +188,7 @@ static struct bytes rows_of(uint64_t batch, size_t size) {
 // A FieldDescriptorProto: name 1, number 3, label 4 and type 5, of which 3 is INT64 and 9 STRING.
 static void put_field(struct bytes *out, const char *name, unsigned number, unsigned type) {
   struct bytes field = {0};
-  put_payload(&field, 1, name, strlen(name));
+  put_text(&field, 1, name);
   put_number(&field, 3, number), put_number(&field, 4, 1), put_number(&field, 5, type);
   put_payload(out, 2, field.at, field.len);
   free(field.at);
@@ -247,6 +285,15 @@ static void check_response(struct appends *appends, const uint8_t *at, size_t le
   appends->answered++;
 }
 
+// A ReadRowsResponse: avro_rows 3 {serialized_binary_rows 1}, row_count 6.
+static void count_rows(struct rows *rows, const uint8_t *at, size_t len) {
+  for (const uint8_t *end = at + len; at < end;) {
+    struct field field = take_field(&at, end);
+    if (field.number == 6) rows->count += field.value;
+    if (field.number == 3) rows->bytes += take_field(&field.at, at).value;
+  }
+}
+
 // Takes the whole messages that came.
 static void take_responses(struct call *call) {
   size_t done = 0;
@@ -254,9 +301,11 @@ static void take_responses(struct call *call) {
     const uint8_t *at = call->response.at + done;
     size_t len = (size_t)at[1] << 24 | (size_t)at[2] << 16 | (size_t)at[3] << 8 | at[4];
     if (call->response.len - done - PREFIX < len) break;
-    check_response(call->appends, at + PREFIX, len);
+    if (call->appends) check_response(call->appends, at + PREFIX, len);
+    else count_rows(call->rows, at + PREFIX, len);
     done += PREFIX + len;
   }
+  if (!done) return;
   call->response.len -= done;
   memmove(call->response.at, call->response.at + done, call->response.len);
 }
@@ -265,7 +314,7 @@ static int data_came(nghttp2_session *session, uint8_t flags, int32_t id, const 
   struct call *call = nghttp2_session_get_stream_user_data(session, id);
   (void)flags, (void)user;
   add(&call->response, data, len);
-  if (!call->appends) return 0;
+  if (!call->appends && !call->rows) return 0;
   take_responses(call);
   if (call->is_deferred) call->is_deferred = 0, nghttp2_session_resume_data(session, id);
   return 0;
@@ -342,16 +391,24 @@ static void go_on(struct link *link) {
 
 #define FIELD(name, value) {(uint8_t *)name, (uint8_t *)value, sizeof name - 1, strlen(value), NGHTTP2_NV_FLAG_NONE}
 
-// Makes a call and waits for its end, which must be good.
-static void play(struct link *link, const char *path, struct call *call) {
+static void begin(struct link *link, const char *path, struct call *call) {
   nghttp2_nv fields[] = {
       FIELD(":method", "POST"), FIELD(":scheme", "http"), FIELD(":path", path), FIELD(":authority", "localhost"),
       FIELD("content-type", "application/grpc"), FIELD("te", "trailers"),
   };
   nghttp2_data_provider provider = {.source = {.ptr = call}, .read_callback = read_request};
   if (nghttp2_submit_request(link->session, NULL, fields, 6, &provider, call) < 0) fail("no call");
+}
+
+// Waits for the end of a call, which must be good.
+static void finish(struct link *link, struct call *call) {
   while (!call->has_ended) go_on(link);
   if (!call->is_good) fail("a call ended with an error");
+}
+
+static void play(struct link *link, const char *path, struct call *call) {
+  begin(link, path, call);
+  finish(link, call);
 }
 
 // ---- the loads
@@ -381,16 +438,19 @@ static struct bytes created(struct link *link, int number) {
   return name;
 }
 
-static void *append_all(void *from) {
-  const struct load *load = from;
-  struct link link = connected();
-  struct bytes name = created(&link, load->number);
+static void append_on(struct link *link, const struct load *load) {
+  struct bytes name = created(link, load->number);
   struct appends appends = {.messages = load->messages, .batch = load->batch};
   struct call call = {.appends = &appends};
   make_messages(&appends, &name, load->size);
-  play(&link, SERVICE "AppendRows", &call);
+  play(link, SERVICE "AppendRows", &call);
   if (appends.answered != appends.messages) fail("an append got no response");
   free(name.at), free(appends.first.at), free(appends.rest.at), free(call.response.at);
+}
+
+static void *append_all(void *from) {
+  struct link link = connected();
+  append_on(&link, from);
   disconnect(&link);
   return NULL;
 }
@@ -436,22 +496,145 @@ static void get(clockid_t clock, size_t calls) {
   free(times), free(name.at), free(request.at);
 }
 
+// Kilobytes of the server's memory: "VmRSS:" are resident now, and "VmHWM:" were at the peak.
+static double kilobytes(const char *which) {
+  char line[256];
+  snprintf(line, sizeof line, "/proc/%d/status", process);
+  FILE *file = fopen(line, "r");
+  double found = -1;
+  while (file && fgets(line, sizeof line, file))
+    if (!strncmp(line, which, strlen(which))) found = atof(line + strlen(which));
+  if (found < 0 || fclose(file)) fail("the server's memory isn't known");
+  return found;
+}
+
+static void forget_peak(void) {
+  char path[64];
+  snprintf(path, sizeof path, "/proc/%d/clear_refs", process);
+  FILE *file = fopen(path, "w");
+  if (!file || fputs("5", file) < 0 || fclose(file)) fail("the server's peak of memory can't be forgotten");
+}
+
+// A CreateReadSessionRequest: parent 1, read_session 2 {data_format 3, of which 1 is AVRO, table 6, read_options 8
+// {selected_fields 1, row_restriction 2}}, max_stream_count 3. The parent of a table's session is its project.
+static struct bytes session_request(int streams, const char *restriction, const char *columns) {
+  struct bytes message = {0}, session = {0}, options = {0}, name = {0};
+  const char *slash = strchr(table, '/'), *project_end = slash ? strchr(slash + 1, '/') : NULL;
+  if (!project_end) fail("TABLE isn't a table's name");
+  while (*columns) {
+    size_t len = strcspn(columns, ",");
+    put_payload(&options, 1, columns, len);
+    columns += len + (columns[len] == ',');
+  }
+  put_text(&options, 2, restriction);
+  add(&name, table, strlen(table)), add(&name, "0", 1);
+  put_number(&session, 3, 1);
+  put_payload(&session, 6, name.at, name.len);
+  put_payload(&session, 8, options.at, options.len);
+  put_payload(&message, 1, table, (size_t)(project_end - table));
+  put_payload(&message, 2, session.at, session.len);
+  put_number(&message, 3, (uint64_t)streams);
+  free(name.at), free(session.at), free(options.at);
+  return framed(message);
+}
+
+// The ReadRowsRequests of a session that is made for this, one for each of its streams: read_stream 1. The response has
+// streams 10 {name 1}.
+static void open_session(struct link *link, struct bytes request, struct call *calls, int streams) {
+  struct call call = {.request = request};
+  int found = 0;
+  play(link, READ_SERVICE "CreateReadSession", &call);
+  const uint8_t *at = call.response.at + PREFIX, *end = call.response.at + call.response.len;
+  while (at < end) {
+    struct field stream = take_field(&at, end);
+    if (stream.number != 10) continue;
+    struct field name = take_field(&stream.at, at);
+    struct bytes message = {0};
+    if (found == streams) fail("a session has other streams");
+    put_payload(&message, 1, name.at, name.value);
+    calls[found++].request = framed(message);
+  }
+  if (found != streams) fail("a session has other streams");
+  free(call.response.at);
+}
+
+// What is to be read, and how often.
+struct reads {
+  struct bytes request;
+  int streams, times;
+  uint64_t due;
+};
+
+// The bytes of the rows of a session.
+static uint64_t read_all(struct link *link, const struct reads *reads) {
+  struct call calls[MOST_STREAMS] = {0};
+  struct rows rows = {0};
+  open_session(link, reads->request, calls, reads->streams);
+  for (int i = 0; i < reads->streams; i++) {
+    calls[i].rows = &rows;
+    begin(link, READ_SERVICE "ReadRows", &calls[i]);
+  }
+  for (int i = 0; i < reads->streams; i++) {
+    finish(link, &calls[i]);
+    if (calls[i].response.len) fail("a response isn't whole");
+    free(calls[i].request.at), free(calls[i].response.at);
+  }
+  if (rows.count != reads->due) fail("other rows came than are due");
+  return rows.bytes;
+}
+
+static void read_table(clockid_t clock, const struct load *load, const struct reads *reads) {
+  struct link link = connected();
+  uint64_t bytes = 0;
+  append_on(&link, load);
+  forget_peak();
+  double before = kilobytes("VmRSS:");
+  double start = seconds_of(CLOCK_MONOTONIC), theirs = seconds_of(clock), own = seconds_of(CLOCK_PROCESS_CPUTIME_ID);
+  for (int i = 0; i < reads->times; i++) bytes = read_all(&link, reads);
+  double whole = seconds_of(CLOCK_MONOTONIC) - start;
+  theirs = seconds_of(clock) - theirs, own = seconds_of(CLOCK_PROCESS_CPUTIME_ID) - own;
+  printf("%.6f %.6f %.6f %.0f %llu\n", whole, theirs, own, kilobytes("VmHWM:") - before, (unsigned long long)bytes);
+  disconnect(&link);
+}
+
+static uint64_t number(const char *word) {
+  return strtoull(word, NULL, 10);
+}
+
+static int between(const char *word, int most, const char *what) {
+  int given = atoi(word);
+  if (given < 1 || given > most) fail(what);
+  return given;
+}
+
 int main(int words, char **word) {
   clockid_t clock;
-  int is_append = words == 9 && !strcmp(word[3], "append"), is_get = words == 6 && !strcmp(word[3], "get");
-  if (!is_append && !is_get) fail("PORT PID append TABLE ROWS BATCH SIZE CONNECTIONS, or PORT PID get TABLE CALLS");
+  const char *load = words > 4 ? word[3] : "";
+  int is_append = words == 9 && !strcmp(load, "append"), is_get = words == 6 && !strcmp(load, "get");
+  int is_read = words == 12 && !strcmp(load, "read");
+  if (!is_append && !is_get && !is_read)
+    fail("PORT PID append TABLE ROWS BATCH SIZE CONNECTIONS, PORT PID get TABLE CALLS, or"
+         " PORT PID read TABLE ROWS SIZE TIMES STREAMS RESTRICTION COLUMNS DUE");
   server.sin_family = AF_INET;
   server.sin_port = htons((uint16_t)atoi(word[1]));
   server.sin_addr.s_addr = htonl(INADDR_LOOPBACK);
+  process = atoi(word[2]);
   table = word[4];
-  if (clock_getcpuclockid(atoi(word[2]), &clock)) fail("no such process");
+  if (clock_getcpuclockid(process, &clock)) fail("no such process");
   alarm(SECONDS);
-  if (is_get) {
-    get(clock, strtoull(word[5], NULL, 10));
-    return 0;
+  if (is_append) {
+    int connections = between(word[8], MOST_CONNECTIONS, "1 to 8 connections");
+    append(clock, number(word[5]), number(word[6]), number(word[7]), connections);
+  } else if (is_get) {
+    get(clock, number(word[5]));
+  } else {
+    int times = between(word[7], MOST_TIMES, "1 to 1,000 times");
+    int streams = between(word[8], MOST_STREAMS, "1 to 100 streams");
+    struct load rows = {.messages = number(word[5]) / READ_BATCH, .batch = READ_BATCH, .size = number(word[6])};
+    if (!rows.messages) fail("1,000 rows or more");
+    struct reads reads = {session_request(streams, word[9], word[10]), streams, times, number(word[11])};
+    read_table(clock, &rows, &reads);
+    free(reads.request.at);
   }
-  int connections = atoi(word[8]);
-  if (connections < 1 || connections > MOST_CONNECTIONS) fail("1 to 8 connections");
-  append(clock, strtoull(word[5], NULL, 10), strtoull(word[6], NULL, 10), strtoull(word[7], NULL, 10), connections);
   return 0;
 }

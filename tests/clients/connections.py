@@ -77,12 +77,12 @@ class Pipe:
 
 
 class Serve:
-    """`PROGRAM serve`, for one connection."""
+    """`PROGRAM serve` with two workers, for one connection or for so many."""
 
-    def __init__(self, program, tables):
+    def __init__(self, program, tables, connections=1):
         with socket.create_server(("127.0.0.1", 0)) as free:
             self.address = "127.0.0.1:%d" % free.getsockname()[1]
-        words = [program, "serve", "--listen", self.address, "--workers", "2", "--connections", "1", *tables]
+        words = [program, "serve", "--listen", self.address, "--workers", "2", "--connections", str(connections), *tables]
         self.child = subprocess.Popen(words, stdout=subprocess.PIPE, cwd=TOP)
         self.lines = None
         self.wait_until_it_listens()
