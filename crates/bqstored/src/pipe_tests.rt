@@ -10,6 +10,7 @@ use outside::{MemSink, MemSource, Piece};
 use std::process::Abort;
 use std::sync::Wait;
 use std::test::Fail;
+use std::thread::Threads;
 
 pub(crate) const SPEC: &str = "projects/p/datasets/d/tables/t=id:INT64:REQUIRED,tag:STRING";
 
@@ -31,7 +32,7 @@ pub(crate) const ACKNOWLEDGED: &[u8] =
 const GOAWAY: &[u8] = b"\x00\x00\x08\x07\x00\x00\x00\x00\x00\x00\x00\x00\x00\x00\x00\x00\x01";
 
 /// The status of `pipe` over these bytes, and the link behind it.
-fn answer<R: Wait + AllocGlobal>(
+fn answer<R: Threads + Wait + Sync + AllocGlobal>(
     rt: &R,
     input: &[&[u8]],
     writes: Vec<Piece>,
@@ -68,7 +69,7 @@ fn answer<R: Wait + AllocGlobal>(
 }
 
 /// The bytes are answered by these, with this status.
-fn expect<R: Abort + Wait + AllocGlobal>(
+fn expect<R: Abort + Threads + Wait + Sync + AllocGlobal>(
     rt: &R,
     input: &[&[u8]],
     output: &[&[u8]],
