@@ -10,7 +10,6 @@ use outside::{MemSink, MemSource, Piece};
 use std::process::Abort;
 use std::sync::Wait;
 use std::test::Fail;
-use std::thread::Threads;
 
 pub(crate) const SPEC: &str = "projects/p/datasets/d/tables/t=id:INT64:REQUIRED,tag:STRING";
 
@@ -32,7 +31,7 @@ pub(crate) const ACKNOWLEDGED: &[u8] =
 const GOAWAY: &[u8] = b"\x00\x00\x08\x07\x00\x00\x00\x00\x00\x00\x00\x00\x00\x00\x00\x00\x01";
 
 /// The status of `pipe` over these bytes, and the link behind it.
-fn answer<R: Threads + Wait + Sync + AllocGlobal>(
+fn answer<R: Wait + AllocGlobal>(
     rt: &R,
     input: &[&[u8]],
     writes: Vec<Piece>,
@@ -69,7 +68,7 @@ fn answer<R: Threads + Wait + Sync + AllocGlobal>(
 }
 
 /// The bytes are answered by these, with this status.
-fn expect<R: Abort + Threads + Wait + Sync + AllocGlobal>(
+fn expect<R: Abort + Wait + AllocGlobal>(
     rt: &R,
     input: &[&[u8]],
     output: &[&[u8]],

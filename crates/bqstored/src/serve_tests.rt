@@ -7,44 +7,31 @@ ghost use Rattle.doors.specs.Memory.{is_new};
 use crate::commands::run;
 use crate::pipe_tests::{ACKNOWLEDGED, PREFACE, SERVER_SETTINGS, SETTINGS_AND_PING, SPEC};
 use doors::MemDoor;
-use links::{Gate, Hold, MemClock, MemLink, OpenGate, ScriptGate};
+use links::{MemClock, MemLink, OpenGate};
 use outside::{MemSink, MemSource};
 use std::alloc::Global;
 use std::process::Abort;
 use std::sync::Wait;
 use std::test::Fail;
-use std::thread::Threads;
 
 const REPORT: &[u8] = b"projects/p/datasets/d/tables/t entries 0 visible 0\n";
 
-const REPORT_OF_ONE: &[u8] = b"projects/p/datasets/d/tables/t entries 1 visible 1\n";
-
-/// A call of AppendRows on stream 1: a row with id 1 to the table's own stream.
-const APPEND: &[u8] =
-    b"\x00\x00i\x01\x04\x00\x00\x00\x01\x83\x86\x04:/google.cloud.bigquery.storage.v1.BigQueryWrite/AppendRows\x01\x09localhost\x0f\x10\x10application/grpc\x00\x02te\x08trailers\x00\x00Q\x00\x01\x00\x00\x00\x01\x00\x00\x00\x00L\x0a/projects/p/datasets/d/tables/t/streams/_default\x22\x19\x0a\x11\x0a\x0f\x0a\x01R\x12\x0a\x0a\x02id\x18\x01 \x01(\x03\x12\x04\x0a\x02\x08\x01";
-
-/// A call of GetWriteStream on stream 1.
-const GET: &[u8] =
-    b"\x00\x00m\x01\x04\x00\x00\x00\x01\x83\x86\x04>/google.cloud.bigquery.storage.v1.BigQueryWrite/GetWriteStream\x01\x09localhost\x0f\x10\x10application/grpc\x00\x02te\x08trailers\x00\x006\x00\x01\x00\x00\x00\x01\x00\x00\x00\x001\x0a/projects/p/datasets/d/tables/t/streams/_default";
-
-/// A link over which a client sends SETTINGS and PING, and then this.
-fn client(alloc: Global, calls: &[u8]) -> Result<MemLink, Fail>
+/// A link over which a client sends SETTINGS and PING.
+fn client(alloc: Global) -> Result<MemLink, Fail>
     ensures { IfOk result (λ link. is_new link ≡ true) }
 {
     let mut bytes = Vec::new(alloc);
     bytes.extend_from_slice(PREFACE)?;
     bytes.extend_from_slice(SETTINGS_AND_PING)?;
-    bytes.extend_from_slice(calls)?;
     Ok(MemLink::new(alloc, bytes, Vec::new(alloc), Vec::new(alloc)))
 }
 
 /// The status of `serve` over a door with these links, the door behind it, and what was written.
-fn answer<R: Threads + Wait + Sync + AllocGlobal, G: Gate + Sync>(
+fn answer<R: Wait + AllocGlobal>(
     rt: &R,
     connections: &str,
     links: Vec<MemLink>,
     fail_at: Option<u32>,
-    gate: &G,
 ) -> Result<(u8, MemDoor, MemSink), Fail>
     requires { IsTrue (list_all is_new links.items) }
 {
@@ -70,7 +57,7 @@ fn answer<R: Threads + Wait + Sync + AllocGlobal, G: Gate + Sync>(
         &mut door,
         &mut pipe,
         &mut clock,
-        gate,
+        &OpenGate,
         &mut source,
         &mut sink,
     );
@@ -78,7 +65,7 @@ fn answer<R: Threads + Wait + Sync + AllocGlobal, G: Gate + Sync>(
 }
 
 /// So many links were handed back, each with the answers to what [`client`] sends, and this was written.
-fn expect<R: Abort + Threads + Wait + Sync + AllocGlobal>(
+fn expect<R: Abort + Wait + AllocGlobal>(
     rt: &R,
     connections: &str,
     fail_at: Option<u32>,
@@ -87,8 +74,8 @@ fn expect<R: Abort + Threads + Wait + Sync + AllocGlobal>(
     output: &[u8],
 ) -> Result<(), Fail> {
     let alloc = rt.alloc();
-    let links = vec![in alloc; client(alloc, &[])?, client(alloc, &[])?]?;
-    let (found, door, sink) = answer(rt, connections, links, fail_at, &OpenGate)?;
+    let links = vec![in alloc; client(alloc)?, client(alloc)?]?;
+    let (found, door, sink) = answer(rt, connections, links, fail_at)?;
     assert_eq!(rt; found, status);
     assert_eq!(rt; sink.taken(), output);
     assert_eq!(rt; door.handed().len(), handed);
@@ -112,35 +99,4 @@ fn each_link_is_served_and_handed_back(rt: HostRuntime) -> Result<(), Fail> {
 fn a_fault_of_the_door_leaves_no_report(rt: HostRuntime) -> Result<(), Fail> {
     expect(&rt, "2", Some(1), 0, 3, b"")?;
     expect(&rt, "2", Some(3), 1, 3, b"")
-}
-
-/// One connection appends and the other asks for the stream. Request 1 of `held` waits until that of `first` is answered.
-fn expect_at_once<R: Abort + Threads + Wait + Sync + AllocGlobal>(
-    rt: &R,
-    held: u32,
-    first: u32,
-) -> Result<(), Fail> {
-    let alloc = rt.alloc();
-    let holds = vec![in alloc;
-        Hold {
-            connection: held,
-            request: 1,
-            until_connection: first,
-            until_request: 1,
-        },
-    ]?;
-    let gate = ScriptGate::new(alloc, holds, 1_000_000_000)?;
-    let links = vec![in alloc; client(alloc, APPEND)?, client(alloc, GET)?]?;
-    let (status, door, sink) = answer(rt, "2", links, None, &gate)?;
-    assert_eq!(rt; status, 0);
-    assert_eq!(rt; sink.taken(), REPORT_OF_ONE);
-    assert_eq!(rt; door.handed().len(), 2);
-    assert_eq!(rt; gate.gave_up(), false);
-    Ok(())
-}
-
-#[test]
-fn two_connections_are_served_at_once(rt: HostRuntime) -> Result<(), Fail> {
-    expect_at_once(&rt, 1, 0)?;
-    expect_at_once(&rt, 0, 1)
 }

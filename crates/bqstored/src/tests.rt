@@ -8,7 +8,6 @@ use outside::{MemSink, MemSource, Sink, SinkWrite, Source, SourceRead};
 use std::process::Abort;
 use std::sync::Wait;
 use std::test::Fail;
-use std::thread::Threads;
 use table_model::{MAX_ENTRIES, MAX_WEIGHT, ROW_OVERHEAD};
 
 /// A source in memory that gives at most so many bytes at a time, and meets a fault where its calls
@@ -71,7 +70,7 @@ impl Sink for Narrow {
 const MANY: usize = 1_000;
 
 /// The status of these words over a source and a sink. No byte comes over the connection.
-pub(crate) fn run_over<R: Threads + Wait + Sync + AllocGlobal, I: Source, O: Sink>(
+pub(crate) fn run_over<R: Wait + AllocGlobal, I: Source, O: Sink>(
     rt: &R,
     words: &[String],
     source: &mut I,
@@ -87,7 +86,7 @@ pub(crate) fn run_over<R: Threads + Wait + Sync + AllocGlobal, I: Source, O: Sin
 }
 
 /// What the command `body` writes for an input, and its status.
-fn answer<R: Threads + Wait + Sync + AllocGlobal>(
+fn answer<R: Wait + AllocGlobal>(
     rt: &R,
     input: &[u8],
     most: usize,
@@ -113,7 +112,7 @@ fn answer<R: Threads + Wait + Sync + AllocGlobal>(
 }
 
 /// Whole and byte by byte, the input has this output and status.
-fn expect<R: Abort + Threads + Wait + Sync + AllocGlobal>(
+fn expect<R: Abort + Wait + AllocGlobal>(
     rt: &R,
     input: &[u8],
     output: &[u8],
