@@ -124,9 +124,13 @@ fn a_link_over_std_gives_and_takes(rt: HostRuntime) -> Result<(), Fail> {
     let mut link = StdLink::new(rt.alloc(), b"abc".as_slice(), out)?;
     let mut into = [0u8; 2];
     assert_eq!(rt; link.write(b"xy"), LinkWrite::Took(2));
+    assert_eq!(rt; link.read(&mut into), LinkRead::NotReady);
+    assert_eq!(rt; link.wait(false), Ok(()));
     assert_eq!(rt; link.read(&mut into), LinkRead::Got(2));
     assert_eq!(rt; &into, b"ab");
     assert_eq!(rt; link.read(&mut into), LinkRead::Got(1));
+    assert_eq!(rt; link.read(&mut into), LinkRead::NotReady);
+    assert_eq!(rt; link.wait(false), Ok(()));
     assert_eq!(rt; link.read(&mut into), LinkRead::End);
     assert_eq!(rt; link.read(&mut into), LinkRead::End);
     assert_eq!(rt; link.write(b"z"), LinkWrite::Took(1));

@@ -14,15 +14,19 @@ const BUFFER: usize = 65_536;
 
 /// A link over a reader and a writer of std, as standard input and output.
 ///
-/// It reads up to 65,536 bytes ahead, and gathers as many before it writes them. What it gathered is
-/// written before it reads from the reader, which may block, at `wait` and at `close`; behind the end
-/// of the input each write is passed on at once, so that a fault is met by that write. It is always
-/// ready, and tells no bytes to a generic caller. A read of no byte is the end; each error, and a
-/// write of no byte, is a fault. A fault at `close` is met by no call.
+/// It reads up to 65,536 bytes ahead, and gathers as many before it writes them. It asks the reader,
+/// which may block, only in the first read behind a `wait`: any other read that finds nothing read
+/// ahead isn't ready, so that its caller writes all that it has before it waits for more. What was
+/// gathered is written where nothing was read ahead, at `wait` and at `close`; behind the end of the
+/// input each write is passed on at once, so that a fault is met by that write. It takes each write,
+/// and tells no bytes to a generic caller. A read of no byte is the end; each error, and a write of
+/// no byte, is a fault. A fault at `close` is met by no call.
 #[derive(Drop)]
 pub struct StdLink<R: Read + Drop, W: Write + Drop> {
     reader: BufReader<R>,
     writer: BufWriter<W>,
+    // whether no read came since the last wait
+    waited: bool,
     ended: bool,
     closed: bool,
     count: u64,
@@ -31,12 +35,14 @@ pub struct StdLink<R: Read + Drop, W: Write + Drop> {
 impl<R: Read + Drop, W: Write + Drop> StdLink<R, W> {
     ghost use Rattle.links.specs.Std.{unread, ahead, taken, gathered};
 
-    /// A link that reads from `reader` and writes to `writer`. It met no fault yet, and isn't closed.
+    /// A link that reads from `reader` and writes to `writer`. It didn't wait and met no fault yet, and
+    /// isn't closed.
     pub fn new(alloc: Global, reader: R, writer: W) -> Result<StdLink<R, W>, Memory>
         ensures unread { IfOk result (λ l. Keeps (R.remaining reader) (unread R.remaining l)) }
         ensures ahead { IfOk result (λ l. ahead l ≡ []) }
         ensures taken { IfOk result (λ l. Keeps (W.contents writer) (taken W.contents l)) }
         ensures gathered { IfOk result (λ l. gathered l ≡ []) }
+        ensures waited { IfOk result (λ l. l.waited ≡ false) }
         ensures ended { IfOk result (λ l. l.ended ≡ false) }
         ensures open { IfOk result (λ l. l.closed ≡ false) }
         ensures no_fault { IfOk result (λ l. l.count ≡ 0) }
@@ -50,6 +56,7 @@ impl<R: Read + Drop, W: Write + Drop> StdLink<R, W> {
         Ok(StdLink {
             reader,
             writer,
+            waited: false,
             ended: false,
             closed: false,
             count: 0,
@@ -61,6 +68,7 @@ impl<R: Read + Drop, W: Write + Drop> StdLink<R, W> {
         ensures all { result ≡ true → gathered self.new ≡ [] }
         ensures taken { Keeps (taken W.contents self.old) (taken W.contents self.new) }
         ensures reader { self.new.reader ≡ self.old.reader }
+        ensures waited { self.new.waited ≡ self.old.waited }
         ensures ended { self.new.ended ≡ self.old.ended }
         ensures closed { self.new.closed ≡ self.old.closed }
         ensures count { self.new.count ≡ self.old.count }
@@ -70,7 +78,7 @@ impl<R: Read + Drop, W: Write + Drop> StdLink<R, W> {
 }
 
 impl<R: Read + Drop, W: Write + Drop> Link for StdLink<R, W> {
-    ghost use Rattle.links.specs.Std.{unread, ahead, taken, gathered, GivesUnread, TakesOffered};
+    ghost use Rattle.links.specs.Std.{unread, ahead, taken, gathered, GivesUnread, IsUnready, TakesOffered};
 
     ghost log = { λ _. None };
 
@@ -94,15 +102,22 @@ impl<R: Read + Drop, W: Write + Drop> Link for StdLink<R, W> {
         ensures cause { ReadCause self.old.count self.new.count result }
         ensures gives { GivesUnread result into.new (unread R.remaining self.old) (unread R.remaining self.new) }
         ensures taken { Keeps (taken W.contents self.old) (taken W.contents self.new) }
+        ensures unready { IsUnready result (ahead self.old) self.old.waited self.old.ended }
+        ensures once { self.new.waited ≡ false }
         ensures written_first { self.old.ended ≡ false → ahead self.old ≡ [] → result ≢ LinkRead.Failed → gathered self.new ≡ [] }
     {
+        let may_block = self.waited;
+        self.waited = false;
         if self.ended {
             return LinkRead::End;
         }
-        let may_block = self.reader.buffer().is_empty();
-        if may_block && !self.flush() {
+        let is_empty = self.reader.buffer().is_empty();
+        if is_empty && !self.flush() {
             self.count = self.count.saturating_add(1);
             return LinkRead::Failed;
+        }
+        if is_empty && !may_block {
+            return LinkRead::NotReady;
         }
         match self.reader.read(into) {
             Ok(0) => {
@@ -127,6 +142,7 @@ impl<R: Read + Drop, W: Write + Drop> Link for StdLink<R, W> {
         ensures cause { WriteCause self.old.count self.new.count result }
         ensures takes { TakesOffered result from.now (taken W.contents self.old) (taken W.contents self.new) }
         ensures unread { unread R.remaining self.new ≡ unread R.remaining self.old }
+        ensures waited { self.new.waited ≡ self.old.waited }
         ensures at_once { self.old.ended ≡ true → result ≢ LinkWrite.Failed → gathered self.new ≡ [] }
     {
         match self.writer.write(from) {
@@ -144,6 +160,7 @@ impl<R: Read + Drop, W: Write + Drop> Link for StdLink<R, W> {
         ensures ended { self.new.ended ≡ self.old.ended }
         ensures open { self.new.closed ≡ false }
         ensures all { OnOk result (gathered self.new ≡ []) }
+        ensures waited { OnOk result (self.new.waited ≡ true) }
         ensures taken { Keeps (taken W.contents self.old) (taken W.contents self.new) }
         ensures unread { unread R.remaining self.new ≡ unread R.remaining self.old }
     {
@@ -151,6 +168,7 @@ impl<R: Read + Drop, W: Write + Drop> Link for StdLink<R, W> {
             self.count = self.count.saturating_add(1);
             return Err(LinkFailed);
         }
+        self.waited = true;
         Ok(())
     }
 
