@@ -3,7 +3,7 @@ use Rattle.std.proofs.Common.{◌≡◌, ℕ, ◌≤◌, ℤ, pos, negsuc, Bool,
 use Rattle.std.proofs.lemmas.Bool.Decides.{nat_tests}
 use Rattle.std.proofs.lemmas.List.{length-map, drop-map}
 use Rattle.std.proofs.lemmas.List.Elements.{recursion_from_All}
-use Rattle.std.specs.Prelude.{int_le, int_lt, nat_abs, slice_get, option_map}
+use Rattle.std.specs.Prelude.{int_le, int_lt, nat_abs, nat_lt, slice_get, option_map}
 use Rattle.std.specs.Int.{int_max}
 use Rattle.std.specs.Result.{IfOk, OnErr}
 use Rattle.outside.specs.declared.wants.Memory.{Memory}
@@ -20,9 +20,10 @@ use Rattle.column_types.specs.Fields.{projected, IsMadeFor}
 use Rattle.column_types.specs.Row.{Fits}
 use Rattle.read_cursor.specs.Lease.{between, keeps, matching}
 use Rattle.row_groups.specs.Places.{joined}
-use Rattle.row_responses.specs.Body.{Answers, IsOf}
+use Rattle.row_responses.specs.Body.{IsOf}
 use Rattle.row_responses.specs.Responses.{responses_of}
-use Rattle.row_responses.specs.declared.whole.AllResponses.TheVariants as responses
+use Rattle.rows_body.specs.declared.body.RowsEnd.TheVariants as rows_end
+use Rattle.rows_body.specs.Rows.{Item, items_of}
 use Rattle.table_engine.specs.declared.looks.Key.{Key}
 use Rattle.table_engine.specs.declared.looks.Held.{Held}
 use Rattle.table_engine.specs.Looks.{Holds, Looks}
@@ -39,11 +40,16 @@ use Rattle.conn_requests.specs.declared.answers.Answer.TheVariants as answers
 use Rattle.call_plans.specs.Endings.{refused_for}
 use Rattle.call_plans.specs.Reading.{told_rows, read_node, read_session, read_answer, read_turn}
 use Rattle.call_read.specs.Held.{held_answer}
+use Rattle.call_read.specs.Items.{messages_of, status_of, told_items}
 
 -- an offset that isn't below 0 is above a number where its value is
-past_end : (n : ℕ) (offset : ℤ) → int_lt (pos n) offset ≡ true → int_lt offset (pos 0) ≡ false → nat_abs offset ≤ n → ⊥
-past_end n (pos at) above sign within = absurd (grind (arith, nat_tests))
-past_end n (negsuc at) above sign within = absurd cc
+same_end : (n : ℕ) (offset : ℤ) → nat_lt n (nat_abs offset) ≡ true → int_lt (pos n) offset ≡ false → int_lt offset (pos 0) ≡ false → ⊥
+same_end n (pos at) beyond past sign = absurd (grind (arith, nat_tests))
+same_end n (negsuc at) beyond past sign = absurd cc
+
+other_end : (n : ℕ) (offset : ℤ) → nat_lt n (nat_abs offset) ≡ false → int_lt (pos n) offset ≡ true → int_lt offset (pos 0) ≡ false → ⊥
+other_end n (pos at) beyond past sign = absurd (grind (arith, nat_tests))
+other_end n (negsuc at) beyond past sign = absurd cc
 
 module _ (columns : List Column) (history : History) (key : Key) (held : Held) (holds : Holds columns history key held) where
   -- the lease's rows are read by the columns
@@ -94,24 +100,49 @@ module _ (columns : List Column) (history : History) (key : Key) (held : Held) (
         ∙ ap (λ found. read_node columns offset holds.session found history now) holds.there
         ∙ told_held
 
--- the responses of all rows from the offset on
-module _ (columns : List Column) (held : Held) (offset now : ℤ) where
-  by_end : (past : Bool) (messages : List (List ℕ)) → int_lt (pos (length (matching held.lease))) offset ≡ past → int_lt offset (pos 0) ≡ false → nat_abs offset ≤ length (matching held.lease)
-      → messages ≡ responses_of columns held.lease.fields (map (projected held.lease.fields) (drop (nat_abs offset) (matching held.lease)))
-      → answers.Ends messages (record { code = 0; text = [] })
-      ≡ told_rows columns held.lease.fields (if past then Err (refusal_of why.PastEnd) else Ok (map (projected held.lease.fields) (drop (nat_abs offset) (matching held.lease))))
-  by_end true messages is sign within are = absurd (past_end (length (matching held.lease)) offset is sign within)
-  by_end false messages is sign within are = ap (λ (all : List (List ℕ)). answers.Ends all (record { code = 0; text = [] })) are
+-- what a body comes to that is to give all rows from the offset on
+messages-all : (messages : List (List ℕ)) → messages_of (map Ok messages) ≡ messages
+unfolding messages_of
+messages-all [] = refl
+messages-all (message ∷ messages) = ap (λ rest. message ∷ rest) (messages-all messages)
 
-  pub held-responses : (messages : List (List ℕ)) → int_le held.expires (int_max held.moment now) ≡ false → int_lt offset (pos 0) ≡ false
-      → Answers columns (record { lease = held.lease; at = nat_abs offset }) (responses.Responses messages)
-      → answers.Ends messages (record { code = 0; text = [] }) ≡ held_answer columns held offset now
-  held-responses messages fresh sign given =
-      let rows = map (projected held.lease.fields) (drop (nat_abs offset) (matching held.lease)) in
-      let past = int_lt (pos (length (matching held.lease))) offset in
+status-all : (messages : List (List ℕ)) → status_of (map Ok messages) ≡ record { code = 0; text = [] }
+unfolding status_of
+status-all [] = refl
+status-all (message ∷ messages) = status-all messages
+
+told-all : (messages : List (List ℕ)) → told_items (map Ok messages) ≡ answers.Ends messages (record { code = 0; text = [] })
+told-all messages =
+    ap (λ all. answers.Ends all (status_of (map Ok messages))) (messages-all messages) ∙ ap (answers.Ends messages) (status-all messages)
+
+told-past : (matched : ℕ) → told_items (Err (rows_end.PastEnd matched) ∷ []) ≡ refused_for why.PastEnd
+unfolding messages_of status_of
+told-past matched = refl
+
+module _ (columns : List Column) (held : Held) (offset now : ℤ) where
+  abbrev matched : ℕ
+  matched = length (matching held.lease)
+
+  abbrev rows : List Row
+  rows = map (projected held.lease.fields) (drop (nat_abs offset) (matching held.lease))
+
+  by_end : (beyond past : Bool) → nat_lt matched (nat_abs offset) ≡ beyond → int_lt (pos matched) offset ≡ past → int_lt offset (pos 0) ≡ false
+      → told_items (if beyond then Err (rows_end.PastEnd matched) ∷ [] else map Ok (responses_of columns held.lease.fields rows))
+      ≡ told_rows columns held.lease.fields (if past then Err (refusal_of why.PastEnd) else Ok rows)
+  by_end true true b p sign = told-past matched
+  by_end false false b p sign = told-all (responses_of columns held.lease.fields rows)
+  by_end true false b p sign = absurd (same_end matched offset b p sign)
+  by_end false true b p sign = absurd (other_end matched offset b p sign)
+
+  pub held-items : (items : List Item) → int_le held.expires (int_max held.moment now) ≡ false → int_lt offset (pos 0) ≡ false
+      → items ≡ items_of columns (record { lease = held.lease; at = nat_abs offset }) → told_items items ≡ held_answer columns held offset now
+  held-items items fresh sign are =
+      let beyond = nat_lt matched (nat_abs offset) in
+      let past = int_lt (pos matched) offset in
       let tests : Bool → Bool → Answer = λ expired negative. told_rows columns held.lease.fields
       (if expired then Err (refusal_of why.Expired) else if negative then Err (refusal_of why.NegativeOffset) else if past then Err (refusal_of why.PastEnd) else Ok rows) in
-      by_end past messages refl sign given.0 given.1
+      ap told_items are
+      ∙ by_end beyond past refl refl sign
       ∙ ap (λ negative. tests false negative) (sym sign)
       ∙ ap (λ expired. tests expired (int_lt offset (pos 0))) (sym fresh)
 
@@ -146,7 +177,7 @@ is_of-looked tables passes after place key result spec look held looks is some t
     let looked = looked_at tables passes after place key result spec look looks is there in
     is_of spec.schema looked.point key held (subst (Looks spec.schema looked.point key) some looked.looks)
 
-module _ (tables : List OpenTable) (passes after : List TableView) (node : ReadPlace) (offset now : ℤ) (answer : Result Answer Memory) (spec : TableSpec) where
+module _ (tables : List OpenTable) (passes after : List TableView) (node : ReadPlace) (offset now : ℤ) {X : Type 0} (tell : X → Answer) (answer : Result X Memory) (spec : TableSpec) where
   abbrev key_of : Key
   key_of = record { session = node.session; node = node.node }
 
@@ -154,45 +185,45 @@ module _ (tables : List OpenTable) (passes after : List TableView) (node : ReadP
   pub loses-looked : (look : Option Held) → LooksAt passes node.table spec.schema key_of look after → OnErr answer (Loses passes (At node.table (read_turn node offset spec.schema)) now after)
   loses-looked look looked = by_answer answer
     where
-      by_answer : (a : Result Answer Memory) → OnErr a (Loses passes (At node.table (read_turn node offset spec.schema)) now after)
+      by_answer : (a : Result X Memory) → OnErr a (Loses passes (At node.table (read_turn node offset spec.schema)) now after)
       by_answer (Ok given) = tt
       by_answer (Err memory) =
           loses-seen passes after node.table now (read_answer spec.schema node.session node.node offset) (seen-looked passes after node.table spec.schema key_of look looked)
 
   pub gets-held : (look : Option Held) (held : Held) (n : ℤ) → LooksAt passes node.table spec.schema key_of look after → look ≡ Some held → n ≡ now
-      → IfOk answer (λ told. told ≡ held_answer spec.schema held offset n)
-      → IfOk answer (λ told. Gets passes (At node.table (read_turn node offset spec.schema)) now told after)
+      → IfOk answer (λ told. tell told ≡ held_answer spec.schema held offset n)
+      → IfOk answer (λ told. Gets passes (At node.table (read_turn node offset spec.schema)) now (tell told) after)
   gets-held look held n looked some same told = by_answer answer told
     where
-      by_answer : (a : Result Answer Memory) → IfOk a (λ told. told ≡ held_answer spec.schema held offset n)
-          → IfOk a (λ told. Gets passes (At node.table (read_turn node offset spec.schema)) now told after)
+      by_answer : (a : Result X Memory) → IfOk a (λ told. tell told ≡ held_answer spec.schema held offset n)
+          → IfOk a (λ told. Gets passes (At node.table (read_turn node offset spec.schema)) now (tell told) after)
       by_answer (Ok given) is =
           let holds = subst (Looks spec.schema looked.point key_of) some looked.looks in
-          gets-looked passes after node.table now (read_answer spec.schema node.session node.node offset) spec.schema key_of look given looked
+          gets-looked passes after node.table now (read_answer spec.schema node.session node.node offset) spec.schema key_of look (tell given) looked
           (is ∙ ap (held_answer spec.schema held offset) same ∙ sym (read_answer-held spec.schema looked.point key_of held holds offset now))
       by_answer (Err memory) is = tt
 
   -- the same of the columns under which it was told
   pub gets-told : (look : Option Held) (held : Held) (other : TableSpec) (slot : Option TableSpec) (o n : ℤ) → LooksAt passes node.table spec.schema key_of look after → look ≡ Some held
-      → o ≡ offset → n ≡ now → slot ≡ Some spec → slot ≡ Some other → IfOk answer (λ told. told ≡ held_answer other.schema held o n)
-      → IfOk answer (λ told. Gets passes (At node.table (read_turn node offset spec.schema)) now told after)
+      → o ≡ offset → n ≡ now → slot ≡ Some spec → slot ≡ Some other → IfOk answer (λ told. tell told ≡ held_answer other.schema held o n)
+      → IfOk answer (λ told. Gets passes (At node.table (read_turn node offset spec.schema)) now (tell told) after)
   gets-told look held other slot o n looked some from same mine theirs told =
       let one : other ≡ spec = one_spec (sym theirs ∙ mine) in
-      let here = subst (λ (s : TableSpec). IfOk answer (λ told. told ≡ held_answer s.schema held o n)) one told in
-      gets-held look held n looked some same (subst (λ at. IfOk answer (λ told. told ≡ held_answer spec.schema held at n)) from here)
+      let here = subst (λ (s : TableSpec). IfOk answer (λ told. tell told ≡ held_answer s.schema held o n)) one told in
+      gets-held look held n looked some same (subst (λ at. IfOk answer (λ told. tell told ≡ held_answer spec.schema held at n)) from here)
     where
       one_spec : {a b : TableSpec} → Some a ≡ Some b → a ≡ b
       one_spec e = cc
 
   pub gets-none : (look : Option Held) → LooksAt passes node.table spec.schema key_of look after → look ≡ None
-      → IfOk answer (λ told. told ≡ refused_for why.NoRead)
-      → IfOk answer (λ told. Gets passes (At node.table (read_turn node offset spec.schema)) now told after)
+      → IfOk answer (λ told. tell told ≡ refused_for why.NoRead)
+      → IfOk answer (λ told. Gets passes (At node.table (read_turn node offset spec.schema)) now (tell told) after)
   gets-none look looked none told = by_answer answer told
     where
-      by_answer : (a : Result Answer Memory) → IfOk a (λ told. told ≡ refused_for why.NoRead)
-          → IfOk a (λ told. Gets passes (At node.table (read_turn node offset spec.schema)) now told after)
+      by_answer : (a : Result X Memory) → IfOk a (λ told. tell told ≡ refused_for why.NoRead)
+          → IfOk a (λ told. Gets passes (At node.table (read_turn node offset spec.schema)) now (tell told) after)
       by_answer (Ok given) is =
           let missing = subst (Looks spec.schema looked.point key_of) none looked.looks in
-          gets-looked passes after node.table now (read_answer spec.schema node.session node.node offset) spec.schema key_of look given looked
+          gets-looked passes after node.table now (read_answer spec.schema node.session node.node offset) spec.schema key_of look (tell given) looked
           (is ∙ sym (read_answer-none spec.schema looked.point key_of offset now missing))
       by_answer (Err memory) is = tt

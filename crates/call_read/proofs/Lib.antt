@@ -5,4 +5,5 @@ mod UnknownLemmas
 mod CodeLemmas
 mod CommitLemmas
 pub mod HeldLemmas
+pub mod ItemLemmas
 pub mod SessionLemmas

@@ -4,3 +4,4 @@ pub mod Lines
 pub mod Streams
 pub mod Choosing
 pub mod Held
+pub mod Items

@@ -2,6 +2,7 @@
 
 ghost use Rattle.std.specs.Prelude.{◌≡◌, IfOk};
 ghost use Rattle.call_plans.specs.Endings.{refusal_answer, refused_for, responded};
+ghost use Rattle.call_read.specs.Items.{status_for};
 
 use call_append::cause_text;
 use conn_requests::Answer;
@@ -20,6 +21,18 @@ pub(crate) fn refusal_answer(alloc: Global, refusal: &Refusal) -> Result<Answer,
         text,
     };
     Ok(Answer::Ends(Blobs::from_vec(Vec::new(alloc)), status))
+}
+
+/// The status of a cause, to stand behind responses.
+pub(crate) fn status_for(alloc: Global, cause: Why) -> Result<Status, Memory>
+    ensures { IfOk result (λ status. status ≡ status_for cause) }
+{
+    let refusal = Refusal::of(cause);
+    let text = cause_text(alloc, &refusal.why)?;
+    Ok(Status {
+        code: refusal.code,
+        text,
+    })
 }
 
 /// The status of a cause.

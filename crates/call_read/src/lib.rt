@@ -8,6 +8,7 @@
 #![tactic(auto)]
 
 mod answers;
+mod bodies;
 mod calls;
 mod choosing;
 mod columns;
@@ -27,6 +28,7 @@ mod splitting;
 mod streams;
 mod wanting;
 
+pub use bodies::{RowsAnswer, rows};
 pub use calls::call;
 pub use committing::commit;
 pub use creating::create;

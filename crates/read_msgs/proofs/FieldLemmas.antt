@@ -1,5 +1,5 @@
 -- What the parts of a message say of one of its fields.
-use Rattle.std.proofs.Common.{◌≡◌, ℕ, Bool, true, false, List, [], ◌∷◌, ◌++◌, Option, Some, None, refl, ap, ◌∙◌}
+use Rattle.std.proofs.Common.{◌≡◌, ℕ, ◌+◌, ◌*◌, Bool, true, false, List, [], ◌∷◌, ◌++◌, length, Option, Some, None, Result, Ok, Err, OnOk, refl, ap, sym, ◌∙◌, append_assoc}
 use Rattle.std.specs.Prelude.{◌==◌}
 use Rattle.std.specs.List.{filter_map, list_any}
 use Rattle.std.proofs.lemmas.List.{append-nil}
@@ -8,7 +8,8 @@ use Rattle.std.proofs.lemmas.List.Folds.{list_any-append}
 use Rattle.proto_fields.specs.declared.field.Field.{Field}
 use Rattle.proto_fields.specs.declared.field.Value.{Value}
 use Rattle.proto_fields.specs.declared.field.Value.TheVariants as value
-use Rattle.proto_fields.specs.Record.{Record}
+use Rattle.proto_fields.specs.Varint.{varint_of}
+use Rattle.proto_fields.specs.Record.{Record, record_bytes, head_bytes}
 use Rattle.proto_fields.specs.Message.{message_of}
 use Rattle.proto_fields.specs.Selection.{varint_for, varints_of}
 use Rattle.proto_fields.specs.Spans.{payload_in, record_in, records_in}
@@ -19,6 +20,16 @@ use Rattle.read_msgs.specs.Parts.{samples, is_sample}
 
 pub parts_join : (xs ys : List Record) → message_of (xs ++ ys) ≡ message_of xs ++ message_of ys
 parts_join xs ys = message_joins xs ys
+
+-- bytes behind what stands in front of so many are their field
+pub headed : {U E : Type 0} (r : Result U E) (number : ℕ) (before mid after bytes : List ℕ) (len : ℕ) → len ≡ length bytes → mid ≡ before ++ head_bytes number len
+    → OnOk r (after ≡ mid ++ bytes) → OnOk r (after ≡ before ++ message_of (bytes_field number bytes ∷ []))
+headed (Ok done) number before mid after bytes len size head is =
+    is ∙ ap (λ xs. xs ++ bytes) head
+    ∙ ap (λ n. (before ++ head_bytes number n) ++ bytes) size
+    ∙ append_assoc before (head_bytes number (length bytes)) bytes
+    ∙ ap (λ xs. before ++ xs) (append_assoc (varint_of (number * 8 + 2)) (varint_of (length bytes)) bytes ∙ sym (append-nil (record_bytes (bytes_field number bytes))))
+headed (Err want) number before mid after bytes len size head is = tt
 
 -- a field asks for a sample whatever the bytes of its message are
 one_samples : (bytes : List ℕ) (number : ℕ) (v : Value) → samples number (payload_in bytes v) ≡ samples number (payload_in [] v)

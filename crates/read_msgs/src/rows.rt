@@ -4,7 +4,7 @@ ghost use Rattle.proto_fields.specs.Message.{fields_of, message_of};
 ghost use Rattle.proto_fields.specs.Spans.{IsWithin, records_in, payload_size};
 ghost use Rattle.write_msgs.specs.Faults.{ReadsAs};
 ghost use Rattle.write_msgs.specs.Reading.{nested};
-ghost use Rattle.write_msgs.specs.Writing.{message_field};
+ghost use Rattle.write_msgs.specs.Writing.{message_field, text_field};
 ghost use Rattle.read_msgs.specs.Rows.{avro_rows_of, avro_schema_of, read_rows_request_of, read_rows_response_of};
 ghost use Rattle.read_msgs.specs.RowsBytes.{avro_rows_bytes, avro_schema_bytes, read_rows_request_bytes, read_rows_response_bytes};
 
@@ -14,7 +14,7 @@ use crate::numbers::{
 use crate::reading::{read_blob, read_int64};
 use crate::writing::put_blob;
 use outside::{Blob, Memory, Text};
-use proto_fields::{Field, Out, fields};
+use proto_fields::{Field, Out, fields, varint_len};
 use std::alloc::Global;
 use write_msgs::{MsgFault, both, inner_message, present, put_int, put_text, read_text};
 
@@ -193,14 +193,30 @@ fn read_avro_rows(
     present(AvroRows::decode(alloc, inner.bytes()), bytes, AVRO_ROWS)
 }
 
+/// How long bytes are as a field, with what stands in front of them; a field without any is not written.
+fn blob_len(number: u32, blob: &Blob) -> Result<usize, Memory>
+    requires { number ≤ 536870911 }
+    ensures { IfOk result (λ n. n ≡ length (message_of (text_field number blob.now))) }
+{
+    match blob.bytes().len() {
+        0 => Ok(0),
+        len => {
+            let front = varint_len(number as u64 * 8 + 2) + varint_len(len as u64);
+            front.checked_add(len).ok_or(Memory)
+        }
+    }
+}
+
+/// Writes the rows of a response, if it gives them. They are copied once, into the response itself.
 fn put_avro_rows(alloc: Global, out: &mut Out, rows: &Option<AvroRows>) -> Result<(), Memory>
     ensures { OnOk result (out.new ≡ out.old ++ message_of (message_field AVRO_ROWS (option_map avro_rows_bytes rows.now))) }
 {
     let Some(rows) = rows else {
         return Ok(());
     };
-    let message = rows.encode(alloc)?;
-    out.bytes(alloc, AVRO_ROWS, message.bytes())
+    let data = &rows.serialized_binary_rows;
+    out.head(alloc, AVRO_ROWS, blob_len(SERIALIZED_BINARY_ROWS, data)?)?;
+    put_blob(alloc, out, SERIALIZED_BINARY_ROWS, data)
 }
 
 impl ReadRowsResponse {

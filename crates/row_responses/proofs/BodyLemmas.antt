@@ -1,6 +1,6 @@
 -- What a body gives.
-use Rattle.std.proofs.Common.{◌≡◌, ◌⊎◌, inl, inr, ℕ, zero, suc, ◌+◌, ◌-◌, ◌<◌, ◌≤◌, Bool, true, false, List, [], ◌∷◌, ◌++◌, length, map, take, drop, get_or, Some, refl, ap, sym, subst, ◌∙◌, append-nil, arith}
-use Rattle.std.specs.Prelude.{slice_get, pos, None, if◌then◌else◌, ◌==◌}
+use Rattle.std.proofs.Common.{◌≡◌, ◌≢◌, ◌⊎◌, inl, inr, ℕ, zero, suc, ◌+◌, ◌-◌, ◌<◌, ◌≤◌, Bool, true, false, List, [], ◌∷◌, ◌++◌, length, map, take, drop, get_or, Some, refl, ap, sym, subst, ◌∙◌, append-nil, arith}
+use Rattle.std.specs.Prelude.{slice_get, pos, None, Result, Ok, Err, OnErr, if◌then◌else◌, ◌==◌}
 use Rattle.std.specs.List.{sum_by, AllByRecursion}
 use Rattle.std.specs.Option.{option_map}
 use Rattle.std.proofs.lemmas.Bool.{ne_eqb, eqb-false}
@@ -22,8 +22,8 @@ use Rattle.row_responses.specs.declared.batch.Step.TheVariants as step
 use Rattle.row_responses.specs.declared.batch.Batch.TheVariants as batch
 use Rattle.row_responses.specs.declared.limits.TheConstants.{MAX_RESPONSE_ROWS, MAX_RESPONSE_BYTES}
 use Rattle.row_responses.specs.Cut.{fitting, cut}
-use Rattle.row_responses.specs.Responses.{data_of, size_of, taken, schema_of, response, responses_from, responses_left, responses_of, IsPart, Give}
-use Rattle.row_responses.specs.Batch.{chosen, with_row, IsNext, Steps, Batches, batch_from}
+use Rattle.row_responses.specs.Responses.{data_of, size_of, taken, schema_of, response, responses_from, responses_left, IsPart, Give}
+use Rattle.row_responses.specs.Batch.{chosen, with_row, HasNext, IsNext, Steps, Batches, batch_from}
 use Rattle.row_responses.specs.Body.{Body, Gives, left_of}
 use Rattle.row_responses.proofs.CutLemmas.{cut_none, cut_step, cut_whole, cut_each, fits_within, taken_is}
 
@@ -299,26 +299,21 @@ gives columns is_new old new written message count batches is =
     }
 
 -- nothing is left at the end
-left_none : (columns : List Column) (body : Body) → body.reading.at ≡ length (matching body.reading.lease) → left_of columns body ≡ []
+pub left_none : (columns : List Column) (body : Body) → body.reading.at ≡ length (matching body.reading.lease) → left_of columns body ≡ []
 left_none columns body end =
     let none : rows_left body.reading ≡ [] = nothing (rows_left body.reading) (omega (arith, length_left body.reading)) in
     ap (responses_left (chosen columns body.reading) body.is_new) none ∙ no_responses (chosen columns body.reading) body.is_new
 
-all_left : (columns : List Column) (first now : Body) (messages : List (List ℕ)) → now.reading.lease ≡ first.reading.lease →
-    messages ++ left_of columns now ≡ left_of columns first → first.reading.at ≤ now.reading.at → now.reading.at ≡ length (matching now.reading.lease) →
-    (first.reading.at ≤ length (matching first.reading.lease)) × (messages ≡ left_of columns first)
-all_left columns first now messages same given low end =
-    let size : length (matching now.reading.lease) ≡ length (matching first.reading.lease) = ap (λ (lease : Leased). length (matching lease)) same in
-    (omega arith, sym (append-nil messages) ∙ ap (λ (back : List (List ℕ)). messages ++ back) (sym (left_none columns now end)) ∙ given)
+-- a response is left where a row is
+pub left_some : (columns : List Column) (reading : Reading) (is_new : Bool) → HasNext reading → left_of columns (record { reading = reading; is_new = is_new }) ≢ []
+left_some columns reading is_new more none =
+    let some : 0 < length (rows_left reading) = omega (arith, length_left reading, more) in
+    let step = left_step (chosen columns reading) is_new (rows_left reading) some in
+    absurd (cc)
 
--- at the end all were given
-pub all_given : (columns : List Column) (reading : Reading) (first now : Body) (messages : List (List ℕ)) → first ≡ record { reading = reading; is_new = true } →
-    now.reading.lease ≡ first.reading.lease → messages ++ left_of columns now ≡ left_of columns first → first.reading.at ≤ now.reading.at →
-    now.reading.at ≡ length (matching now.reading.lease) →
-    (reading.at ≤ length (matching reading.lease)) × (messages ≡ responses_of columns reading.lease.fields (rows_left reading))
-all_given columns reading first now messages is same given low end =
-    subst (λ (body : Body). (body.reading.at ≤ length (matching body.reading.lease)) × (messages ≡ left_of columns body)) is
-    (all_left columns first now messages same given low end)
+pub on_err : {U E P : Type 0} (result : Result U E) → P → OnErr result P
+on_err (Ok done) holds = tt
+on_err (Err want) holds = holds
 
 -- The law.
 

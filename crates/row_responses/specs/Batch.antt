@@ -21,6 +21,10 @@ chosen columns reading = projected reading.lease.fields columns
 abbrev pub with_row : List Column → Reading → List ℕ → List Cell → List ℕ
 with_row columns reading written row = written ++ datum_of (chosen columns reading) row
 
+-- a row is still to give
+abbrev pub HasNext : Reading → Type 0
+HasNext reading = reading.at < length (matching reading.lease)
+
 abbrev pub IsNext : Reading → List Cell → Type 0
 IsNext reading row = slice_get (rows_left reading) 0 ≡ Some row
 

@@ -1,5 +1,5 @@
 -- What a body gives: the responses that its reader is still to get.
-use Rattle.std.specs.Prelude.{◌≡◌, ℕ, ◌+◌, ◌<◌, ◌≤◌, Bool, false, List, ◌∷◌, length}
+use Rattle.std.specs.Prelude.{◌≡◌, ℕ, ◌+◌, ◌<◌, ◌≤◌, Bool, false, List, [], ◌∷◌, length}
 use Rattle.std.specs.List.{AllByRecursion}
 use Rattle.column_types.specs.declared.column.Column.{Column}
 use Rattle.column_types.specs.Fields.{IsMadeFor, projected}
@@ -9,9 +9,7 @@ use Rattle.read_cursor.specs.Lease.{Leased, matching}
 use Rattle.read_cursor.specs.Reading.{Reading, rows_left, moved}
 use Rattle.row_responses.specs.declared.body.NextResponse.{NextResponse}
 use Rattle.row_responses.specs.declared.body.NextResponse.TheVariants as next
-use Rattle.row_responses.specs.declared.whole.AllResponses.{AllResponses}
-use Rattle.row_responses.specs.declared.whole.AllResponses.TheVariants as all
-use Rattle.row_responses.specs.Responses.{responses_left, responses_of}
+use Rattle.row_responses.specs.Responses.{responses_left}
 
 -- where it stands in its lease, and whether no response was given yet
 pub record Body : Type 0 where
@@ -43,13 +41,6 @@ is_new_behind is_new (next.PastEnd matched) = is_new
 -- The next response of those left; or all were given; or the reader asked for rows from behind the last one on.
 abbrev pub Nexts : List Column → Body → Body → NextResponse → Type 0
 Nexts columns old new (next.Response message) = (count : ℕ) × Gives columns old new message count
-Nexts columns old new next.End = (old.reading.at ≡ length (matching old.reading.lease)) × (new ≡ old)
+Nexts columns old new next.End = (old.reading.at ≡ length (matching old.reading.lease)) × (left_of columns old ≡ []) × (new ≡ old)
 Nexts columns old new (next.PastEnd matched) =
     (length (matching old.reading.lease) < old.reading.at) × (matched ≡ length (matching old.reading.lease)) × (new ≡ old)
-
--- All responses of the rows from a place on; or there are fewer rows.
-abbrev pub Answers : List Column → Reading → AllResponses → Type 0
-Answers columns reading (all.Responses messages) =
-    (reading.at ≤ length (matching reading.lease)) × (messages ≡ responses_of columns reading.lease.fields (rows_left reading))
-Answers columns reading (all.PastEnd matched) =
-    (length (matching reading.lease) < reading.at) × (matched ≡ length (matching reading.lease))

@@ -1,7 +1,7 @@
 //! The rows that one response takes.
 
-ghost use Rattle.std.specs.Prelude.{◌≡◌, ◌≤◌, ◌∷◌, IfOk};
-ghost use Rattle.row_responses.specs.Batch.{Batches, Steps, batch_from};
+ghost use Rattle.std.specs.Prelude.{◌≡◌, ◌≤◌, ◌∷◌, IfOk, OnErr};
+ghost use Rattle.row_responses.specs.Batch.{Batches, HasNext, Steps, batch_from};
 ghost use Rattle.row_responses.specs.Body.{IsOf};
 
 use crate::limits::{MAX_RESPONSE_BYTES, MAX_RESPONSE_ROWS};
@@ -45,6 +45,7 @@ fn write_next(
     requires { IsOf schema.now cursor.old.lease }
     ensures lease { cursor.new.lease ≡ cursor.old.lease }
     ensures steps { IfOk result (Steps schema.now is_first cursor.old cursor.new written.old.items written.new.items) }
+    ensures wants { OnErr result (HasNext cursor.old) }
 {
     let mark = cursor.mark();
     match cursor.next_place() {
@@ -85,6 +86,7 @@ pub(crate) fn next_batch(
     requires { IsOf schema.now cursor.old.lease }
     ensures lease { cursor.new.lease ≡ cursor.old.lease }
     ensures batches { IfOk result (Batches schema.now cursor.old cursor.new) }
+    ensures wants { OnErr result (HasNext cursor.old) }
 {
     let mut written = Vec::new(alloc);
     let mut count = 0;

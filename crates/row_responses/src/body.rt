@@ -1,9 +1,9 @@
 //! The responses of a call, one by one.
 
-ghost use Rattle.std.specs.Prelude.{◌≡◌, pos, true, Some, None, IfOk, OnErr, if◌then◌else◌};
+ghost use Rattle.std.specs.Prelude.{◌≡◌, ◌≢◌, [], pos, true, Some, None, IfOk, OnErr, if◌then◌else◌};
 ghost use Rattle.column_types.specs.Fields.{IsMadeFor, projected};
 ghost use Rattle.read_msgs.specs.RowsBytes.{read_rows_response_bytes};
-ghost use Rattle.row_responses.specs.Body.{IsOf, Nexts, is_new_behind};
+ghost use Rattle.row_responses.specs.Body.{IsOf, Nexts, is_new_behind, left_of};
 ghost use Rattle.row_responses.specs.Responses.{schema_of};
 
 use crate::batch::{Batch, next_batch};
@@ -58,11 +58,13 @@ impl ReadBody {
     }
 
     /// The next response, by the schema of the lease's rows. `End` comes exactly where all were given, `PastEnd` exactly
-    /// where the offset exceeds the number of matching rows, which it carries. Want of memory leaves the body as it was.
+    /// where the offset exceeds the number of matching rows, which it carries. Want of memory comes only where a response is
+    /// still to give, and leaves the body as it was.
     pub fn next(&mut self, alloc: Global, schema: &Schema) -> Result<NextResponse, Memory>
         requires { IsOf schema.now self.old.reading.lease }
         ensures ok { IfOk result (Nexts schema.now self.old self.new) }
         ensures err { OnErr result (self.new ≡ self.old) }
+        ensures wants { OnErr result (left_of schema.now self.old ≢ []) }
     {
         let mark = self.cursor.mark();
         match next_response(alloc, schema, &mut self.cursor, self.is_new) {
@@ -90,6 +92,7 @@ fn next_response(
     ensures lease { cursor.new.lease ≡ cursor.old.lease }
     ensures nexts { IfOk result (λ next. Nexts schema.now (record { reading = cursor.old; is_new = has_schema })
         (record { reading = cursor.new; is_new = is_new_behind has_schema next }) next) }
+    ensures wants { OnErr result (left_of schema.now (record { reading = cursor.old; is_new = has_schema }) ≢ []) }
 {
     match next_batch(alloc, schema, cursor)? {
         Batch::Rows { written, count } => {

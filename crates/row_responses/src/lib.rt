@@ -5,8 +5,7 @@
 //! and their count, and the first one of a call gives the schema too. Where there is no row there is no response.
 //!
 //! A [`ReadBody`] gives them one by one. Between two of them it keeps its lease and its place, and no row and no buffer, so
-//! it may be held for long. [`all`] gives the responses of a call that is answered whole. Rows are written straight from
-//! where the lease keeps them.
+//! it may be held for long. Rows are written straight from where the lease keeps them.
 //!
 //! In `specs/Responses` the rows have the chosen columns alone, as those that a cursor's `rows_left` lists, and `columns`
 //! are the chosen ones. `specs/Cut` says how a list is cut, `specs/Body` what a body gives. [`rows_stay_rows`] says what the
@@ -17,9 +16,7 @@ mod batch;
 mod body;
 mod law;
 mod limits;
-mod whole;
 
 pub use body::{NextResponse, ReadBody};
 pub use law::rows_stay_rows;
 pub use limits::{MAX_RESPONSE_BYTES, MAX_RESPONSE_ROWS};
-pub use whole::{AllResponses, all};
