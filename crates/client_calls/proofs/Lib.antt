@@ -1,0 +1,9 @@
+pub mod RequestLaws
+pub mod PieceLemmas
+pub mod Going
+pub mod ReadingLaws
+pub mod Standing
+pub mod Telling
+pub mod CallLemmas
+pub mod ByteLemmas
+pub mod GivenLaws
