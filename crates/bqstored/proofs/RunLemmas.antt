@@ -1,5 +1,5 @@
 -- A run of the program: what its line does, and a run for which memory was wanting at its start.
-use Rattle.std.proofs.Common.{subst, ◌≡◌, inl, inr, ℕ, ◌+◌, List, [], take, Option, Some, None, Err, IfSome, refl, sym, arith}
+use Rattle.std.proofs.Common.{subst, ◌≡◌, inl, inr, ℕ, ◌+◌, ℤ, List, [], take, Option, Some, None, Err, IfSome, refl, sym, arith}
 use Rattle.std.specs.Io.KnownBytes.{Appends}
 use Rattle.std.proofs.lemmas.List.{append-nil}
 use Rattle.std.specs.Prelude.{Bool}
@@ -58,20 +58,20 @@ nothing_ran_over None s = nothing_ran is_readable AnswersFromTable [] s
 nothing_ran_over (Some spec) s = nothing_ran is_decodable AnswersFromTyped (fresh spec.schema) s
 
 -- the words are this line, and no other
-pub line_runs : {L D P C I O : Type 0} (shows : L → LinkShows) (words : List (List ℕ)) (read due : CommandLine) (old new : Objects D P C I O) (before after : Shows L) (status : ℕ)
-    → IsLine words read → IsLine words due → Runs shows read old new before after status → Runs shows due old new before after status
-line_runs shows words read due old new before after status is wanted runs =
-    subst (λ (l : CommandLine). Runs shows l old new before after status) (one_line words read due is wanted) runs
+pub line_runs : {L D P C I O : Type 0} (shows : L → LinkShows) (clones : Option (List ℤ) → Type 0) (words : List (List ℕ)) (read due : CommandLine) (old new : Objects D P C I O) (before after : Shows L) (status : ℕ)
+    → IsLine words read → IsLine words due → Runs shows clones read old new before after status → Runs shows clones due old new before after status
+line_runs shows clones words read due old new before after status is wanted runs =
+    subst (λ (l : CommandLine). Runs shows clones l old new before after status) (one_line words read due is wanted) runs
 
 -- memory was wanting while the line was read
-unrun : {L D P C I O : Type 0} (shown : L → LinkShows) (l : CommandLine) (objects : Objects D P C I O) (shows : Shows L) (status : ℕ) → status ≡ 4 → Runs shown l objects objects shows shows status
-unrun shown (line.Body table) objects shows status is =
+unrun : {L D P C I O : Type 0} (shown : L → LinkShows) (clones : Option (List ℤ) → Type 0) (l : CommandLine) (objects : Objects D P C I O) (shows : Shows L) (status : ℕ) → status ≡ 4 → Runs shown clones l objects objects shows shows status
+unrun shown clones (line.Body table) objects shows status is =
     record { end = ends.Memory; status_is = is; ran = nothing_ran_over table shows.streams; door = refl; pipe = refl; clock = refl }
-unrun shown (line.Pipe specs) objects shows status is =
+unrun shown clones (line.Pipe specs) objects shows status is =
     record { end = ending.Memory; status_is = is; ran = nothing_piped specs shows.pipe; closed = inl is; door = refl; input = refl; out = refl }
-unrun shown (line.Serve listen workers connections specs) objects shows status is =
-    record { end = Err serves.Memory; status_is = is; served = tt; cause = (refl, refl); pipe = refl; input = refl }
-unrun shown (line.Drill n) objects shows status is = (inr is, refl)
+unrun shown clones (line.Serve listen workers connections specs) objects shows status is =
+    record { end = Err serves.Memory; status_is = is; served = tt; cause = (refl, refl); partly = refl; pipe = refl; input = refl }
+unrun shown clones (line.Drill n) objects shows status is = (inr is, refl)
 
 -- words that gave no line
 pub runs_none : {D P C I O : Type 0} (fault : LineFault) (objects : Objects D P C I O) (status : ℕ) → status ≡ status_without fault → RunsNone objects objects status
@@ -79,7 +79,7 @@ runs_none faults.Usage objects status is = (inl is, refl)
 runs_none faults.Memory objects status is = (inr is, refl)
 
 -- words of a line give none only where memory was wanting
-pub line_unread : {L D P C I O : Type 0} (shown : L → LinkShows) (words : List (List ℕ)) (fault : LineFault) (due : CommandLine) (objects : Objects D P C I O) (shows : Shows L) (status : ℕ)
-    → Reads (λ l. l) (IsLine words) (Err fault) → IsLine words due → status ≡ status_without fault → Runs shown due objects objects shows shows status
-line_unread shown words faults.Usage due objects shows status refused is told = absurd (refused due is)
-line_unread shown words faults.Memory due objects shows status refused is told = unrun shown due objects shows status told
+pub line_unread : {L D P C I O : Type 0} (shown : L → LinkShows) (clones : Option (List ℤ) → Type 0) (words : List (List ℕ)) (fault : LineFault) (due : CommandLine) (objects : Objects D P C I O) (shows : Shows L) (status : ℕ)
+    → Reads (λ l. l) (IsLine words) (Err fault) → IsLine words due → status ≡ status_without fault → Runs shown clones due objects objects shows shows status
+line_unread shown clones words faults.Usage due objects shows status refused is told = absurd (refused due is)
+line_unread shown clones words faults.Memory due objects shows status refused is told = unrun shown clones due objects shows status told

@@ -1,5 +1,5 @@
 -- A run of the program: its status, and what it did outside.
-use Rattle.std.specs.Prelude.{◌≡◌, ℕ, ◌<◌, true, List, Option, Result, OnOk}
+use Rattle.std.specs.Prelude.{◌≡◌, ℕ, ◌<◌, ℤ, true, List, Option, Result, OnOk}
 use Rattle.std.proofs.Common.{◌⊎◌}
 use Rattle.call_body.specs.declared.ends.BodyEnd.{BodyEnd}
 use Rattle.table_spec.specs.declared.spec.TableSpec.{TableSpec}
@@ -15,7 +15,7 @@ use Rattle.server.specs.declared.faults.ServeFault.{ServeFault}
 use Rattle.server.specs.Visits.{LinkShows}
 use Rattle.server.specs.Serving.{ServeCause}
 use Rattle.bqstored.specs.Pipe.{Pipes, status_of_ending}
-use Rattle.bqstored.specs.Serve.{ServesNew, status_of_serve}
+use Rattle.bqstored.specs.Serve.{ServesNew, WritesNewPartly, status_of_serve}
 
 -- The words are no line of a command that runs: nothing outside is touched, and the status says so, unless memory was
 -- wanting.
@@ -44,22 +44,24 @@ pub record RunsPipe (specs : List TableSpec) {L D P C I O : Type 0} (old new : O
 
 -- `serve`, with so many workers, connections at most and these tables: where the status is 0, the connections of the door
 -- were served over new tables, and these were reported. The status is 3 only where a count of faults rose, of the door or of
--- the output, and 4 where memory was wanting. The link and the input aren't touched.
-pub record RunsServe {L : Type 0} (shows : L → LinkShows) (workers connections : ℕ) (specs : List TableSpec) {D P C I O : Type 0}
+-- the output, and 4 where memory was wanting; then nothing was written or, only at 3 where that of the door didn't rise, the
+-- first bytes of such a report. The link and the input aren't touched.
+pub record RunsServe {L : Type 0} (shows : L → LinkShows) (clones : Option (List ℤ) → Type 0) (workers connections : ℕ) (specs : List TableSpec) {D P C I O : Type 0}
     (old new : Objects D P C I O) (before after : Shows L) (status : ℕ) : Type 0 where
   pub end : Result (Unit {0}) ServeFault
   pub status_is : status ≡ status_of_serve end
-  pub served : OnOk end (ServesNew shows specs workers connections before.door after.door before.pipe.readings after.pipe.readings before.streams.taken after.streams.taken)
+  pub served : OnOk end (ServesNew shows clones specs workers connections before.door after.door before.pipe.readings after.pipe.readings before.streams.taken after.streams.taken)
   pub cause : ServeCause before.door_faults after.door_faults before.streams.sink_faults after.streams.sink_faults end
+  pub partly : WritesNewPartly specs before.door_faults after.door_faults before.streams.taken after.streams.taken end
   pub pipe : new.pipe ≡ old.pipe
   pub input : new.input ≡ old.input
 
 -- What the line of each command does. That of `drill` doesn't run yet.
-abbrev pub Runs : {L D P C I O : Type 0} → (shows : L → LinkShows) → CommandLine → (old new : Objects D P C I O) → (before after : Shows L) → (status : ℕ) → Type 0
-Runs shows (line.Body table) old new before after status = RunsBody table old new before after status
-Runs shows (line.Pipe specs) old new before after status = RunsPipe specs old new before after status
-Runs shows (line.Serve listen workers connections specs) old new before after status = RunsServe shows workers connections specs old new before after status
-Runs shows (line.Drill n) old new before after status = RunsNone old new status
+abbrev pub Runs : {L D P C I O : Type 0} → (shows : L → LinkShows) → (clones : Option (List ℤ) → Type 0) → CommandLine → (old new : Objects D P C I O) → (before after : Shows L) → (status : ℕ) → Type 0
+Runs shows clones (line.Body table) old new before after status = RunsBody table old new before after status
+Runs shows clones (line.Pipe specs) old new before after status = RunsPipe specs old new before after status
+Runs shows clones (line.Serve listen workers connections specs) old new before after status = RunsServe shows clones workers connections specs old new before after status
+Runs shows clones (line.Drill n) old new before after status = RunsNone old new status
 
 -- the tables of `pipe` and `serve` are some that a server can have, and `serve` has a worker
 abbrev pub HasTables : CommandLine → Type 0

@@ -14,6 +14,7 @@ use links::{Clock, Gate, Link};
 use outside::{Sink, Source};
 use std::alloc::Global;
 use std::sync::Wait;
+use std::thread::Threads;
 
 /// The status where the words are no command line of a command that runs.
 pub const USAGE: u8 = 2;
@@ -32,7 +33,16 @@ fn status_without(fault: LineFault) -> u8
 }
 
 /// Runs the command of a line. A command that doesn't run yet has status 2, and nothing is read or written.
-fn run_line<R: Wait, P: Link, L: Link, D: Door<L>, C: Clock, G: Gate, I: Source, O: Sink>(
+fn run_line<
+    R: Threads + Wait + Sync,
+    P: Link,
+    L: Link + Send + Drop,
+    D: Door<L>,
+    C: Clock + Clone + Send,
+    G: Gate + Sync,
+    I: Source,
+    O: Sink,
+>(
     rt: &R,
     alloc: Global,
     line: CommandLine,
@@ -47,6 +57,7 @@ fn run_line<R: Wait, P: Link, L: Link, D: Door<L>, C: Clock, G: Gate, I: Source,
     requires open { P.closed pipe.old ≡ false }
     ensures runs { Runs
         (λ l. record { log = L.log l; left = L.left l; ended = L.ended l; closed = L.closed l; faults = L.faults l })
+        (λ told. (clone : C) × C.is_clone clock.old clone × (told ≡ C.readings clone))
         line
         (record { door = door.old; pipe = pipe.old; clock = clock.old; input = input.old; out = out.old })
         (record { door = door.new; pipe = pipe.new; clock = clock.new; input = input.new; out = out.new })
@@ -100,10 +111,19 @@ fn run_line<R: Wait, P: Link, L: Link, D: Door<L>, C: Clock, G: Gate, I: Source,
 ///
 /// `body`, with or without a table, reads a body from `input` and writes the replies to `out`. `pipe` serves one
 /// connection over the link `pipe`, with readings of `clock`, and closes the link. `serve` serves the connections that
-/// `door` gives, one after another, closes each and hands it back, and writes the report on the tables to `out`. Where the
-/// words are no command line the status is 2, and nothing is read or written. Until it stands, this is so of the command
+/// `door` gives, several at once on threads of their own, closes each and hands it back, and writes the report on the
+/// tables to `out`. Where the words are no command line the status is 2, and nothing is read or written. Until it stands, this is so of the command
 /// line of `drill` too.
-pub fn run<R: Wait, P: Link, L: Link, D: Door<L>, C: Clock, G: Gate, I: Source, O: Sink>(
+pub fn run<
+    R: Threads + Wait + Sync,
+    P: Link,
+    L: Link + Send + Drop,
+    D: Door<L>,
+    C: Clock + Clone + Send,
+    G: Gate + Sync,
+    I: Source,
+    O: Sink,
+>(
     rt: &R,
     alloc: Global,
     words: &[String],
@@ -121,6 +141,7 @@ pub fn run<R: Wait, P: Link, L: Link, D: Door<L>, C: Clock, G: Gate, I: Source, 
         result }
     ensures runs { (line : Line) → IsLine (map string_bytes words.now) line → Runs
         (λ l. record { log = L.log l; left = L.left l; ended = L.ended l; closed = L.closed l; faults = L.faults l })
+        (λ told. (clone : C) × C.is_clone clock.old clone × (told ≡ C.readings clone))
         line
         (record { door = door.old; pipe = pipe.old; clock = clock.old; input = input.old; out = out.old })
         (record { door = door.new; pipe = pipe.new; clock = clock.new; input = input.new; out = out.new })

@@ -10,6 +10,7 @@ use outside::{MemSink, MemSource, Piece};
 use std::process::Abort;
 use std::sync::Wait;
 use std::test::Fail;
+use std::thread::Threads;
 
 pub(crate) const SPEC: &str = "projects/p/datasets/d/tables/t=id:INT64:REQUIRED,tag:STRING";
 
@@ -31,12 +32,14 @@ pub(crate) const ACKNOWLEDGED: &[u8] =
 const GOAWAY: &[u8] = b"\x00\x00\x08\x07\x00\x00\x00\x00\x00\x00\x00\x00\x00\x00\x00\x00\x01";
 
 /// The status of `pipe` over these bytes, and the link behind it.
-fn answer<R: Wait + AllocGlobal>(
+pub(crate) fn answer<R: Threads + Wait + Sync + AllocGlobal>(
     rt: &R,
     input: &[&[u8]],
+    reads: Vec<Piece>,
     writes: Vec<Piece>,
 ) -> Result<(u8, MemLink), Fail>
-    requires { IsTrue (is_link_script writes.items) }
+    requires reads { IsTrue (is_link_script reads.items) }
+    requires writes { IsTrue (is_link_script writes.items) }
 {
     let alloc = rt.alloc();
     let words = vec![in alloc;
@@ -48,7 +51,7 @@ fn answer<R: Wait + AllocGlobal>(
     for part in input {
         bytes.extend_from_slice(part)?;
     }
-    let mut pipe = MemLink::new(alloc, bytes, Vec::new(alloc), writes);
+    let mut pipe = MemLink::new(alloc, bytes, reads, writes);
     let mut door = MemDoor::new(alloc, Vec::new(alloc), None);
     let mut clock = MemClock::new(Vec::new(alloc));
     let mut source = MemSource::new(alloc, Vec::new(alloc), Vec::new(alloc));
@@ -68,7 +71,7 @@ fn answer<R: Wait + AllocGlobal>(
 }
 
 /// The bytes are answered by these, with this status.
-fn expect<R: Abort + Wait + AllocGlobal>(
+fn expect<R: Abort + Threads + Wait + Sync + AllocGlobal>(
     rt: &R,
     input: &[&[u8]],
     output: &[&[u8]],
@@ -78,7 +81,7 @@ fn expect<R: Abort + Wait + AllocGlobal>(
     for part in output {
         wanted.extend_from_slice(part)?;
     }
-    let (found, pipe) = answer(rt, input, Vec::new(rt.alloc()))?;
+    let (found, pipe) = answer(rt, input, Vec::new(rt.alloc()), Vec::new(rt.alloc()))?;
     assert_eq!(rt; found, status);
     assert_eq!(rt; pipe.written(), wanted.as_slice());
     Ok(())
@@ -100,7 +103,12 @@ fn a_connection_ends_in_its_place(rt: HostRuntime) -> Result<(), Fail> {
 #[test]
 fn a_fault_of_the_link_has_its_status(rt: HostRuntime) -> Result<(), Fail> {
     let writes = vec![in rt.alloc(); Piece::UpTo(1_000), Piece::Fail]?;
-    let (status, pipe) = answer(&rt, &[PREFACE, SETTINGS_AND_PING], writes)?;
+    let (status, pipe) = answer(
+        &rt,
+        &[PREFACE, SETTINGS_AND_PING],
+        Vec::new(rt.alloc()),
+        writes,
+    )?;
     assert_eq!(rt; status, 3);
     assert_eq!(rt; pipe.written(), SERVER_SETTINGS);
     Ok(())

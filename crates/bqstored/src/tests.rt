@@ -8,6 +8,7 @@ use outside::{MemSink, MemSource, Sink, SinkWrite, Source, SourceRead};
 use std::process::Abort;
 use std::sync::Wait;
 use std::test::Fail;
+use std::thread::Threads;
 use table_model::{MAX_ENTRIES, MAX_WEIGHT, ROW_OVERHEAD};
 
 /// A source in memory that gives at most so many bytes at a time, and meets a fault where its calls
@@ -70,7 +71,7 @@ impl Sink for Narrow {
 const MANY: usize = 1_000;
 
 /// The status of these words over a source and a sink. No byte comes over the connection.
-pub(crate) fn run_over<R: Wait + AllocGlobal, I: Source, O: Sink>(
+pub(crate) fn run_over<R: Threads + Wait + Sync + AllocGlobal, I: Source, O: Sink>(
     rt: &R,
     words: &[String],
     source: &mut I,
@@ -86,7 +87,7 @@ pub(crate) fn run_over<R: Wait + AllocGlobal, I: Source, O: Sink>(
 }
 
 /// What the command `body` writes for an input, and its status.
-fn answer<R: Wait + AllocGlobal>(
+fn answer<R: Threads + Wait + Sync + AllocGlobal>(
     rt: &R,
     input: &[u8],
     most: usize,
@@ -112,7 +113,7 @@ fn answer<R: Wait + AllocGlobal>(
 }
 
 /// Whole and byte by byte, the input has this output and status.
-fn expect<R: Abort + Wait + AllocGlobal>(
+fn expect<R: Abort + Threads + Wait + Sync + AllocGlobal>(
     rt: &R,
     input: &[u8],
     output: &[u8],

@@ -5,6 +5,7 @@ use outside::{MemSink, MemSource};
 use std::process::Abort;
 use std::sync::Wait;
 use std::test::Fail;
+use std::thread::Threads;
 
 const SPEC: &str = "projects/p/datasets/d/tables/t=id:INT64:REQUIRED,tag:STRING";
 
@@ -29,7 +30,7 @@ const ROWS_REFUSED: &[u8] =
     b"\x00\x00\x00\x00\x37\x12\x10\x08\x03\x12\x0crows refused\x22\x23\x10\x01\x1a\x1fno value in required column: id";
 
 /// The status of `body --table` with this SPEC over an input, and what it writes.
-fn answer<R: Wait + AllocGlobal>(
+fn answer<R: Threads + Wait + Sync + AllocGlobal>(
     rt: &R,
     spec: &str,
     input: Vec<u8>,
@@ -47,7 +48,7 @@ fn answer<R: Wait + AllocGlobal>(
 }
 
 /// The messages are answered by these bytes, with status 0.
-fn expect<R: Abort + Wait + AllocGlobal>(
+fn expect<R: Abort + Threads + Wait + Sync + AllocGlobal>(
     rt: &R,
     messages: &[&[u8]],
     output: &[&[u8]],

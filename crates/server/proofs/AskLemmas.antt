@@ -1,7 +1,9 @@
 -- Links that go from the door into the queue.
-use Rattle.std.proofs.Common.{◌≡◌, ◌⊎◌, inl, inr, ℕ, ◌+◌, List, [], ◌∷◌, ◌++◌, map, length, Option, refl, sym, ap, ◌∙◌, subst, append_assoc, append-nil, length-append, arith}
+use Rattle.std.proofs.Common.{◌≡◌, inl, inr, ℕ, ◌+◌, List, [], ◌∷◌, ◌++◌, map, Option, refl, sym, ap, ◌∙◌, subst, append_assoc, append-nil, length-append, arith}
+use Rattle.std.specs.Prelude.{Ok, Err}
 use Rattle.links.specs.Told.{Tells}
 use Rattle.doors.specs.Door.{led_by}
+use Rattle.server.specs.declared.faults.ServeFault.{ServeFault}
 use Rattle.server.specs.Serving.{DoorShows, led}
 use Rattle.server.specs.Asks.{HasAsked, AsksAll}
 use Rattle.server.proofs.ServeLemmas.{same_door}
@@ -25,15 +27,17 @@ module _ {L J : Type 0} (link_of : J → L) where
     out = omega (arith, out, so_far.out);
   }
 
-  pub asked_all : (old new : DoorShows L) (put0 put : List J) (number connections : ℕ) → number ≡ connections → HasAsked link_of old new put0 put number → AsksAll link_of old new put0 put connections
+  pub asked_all : (old new : DoorShows L) (put0 put : List J) (number connections : ℕ) → number ≡ connections → HasAsked link_of old new put0 put number
+      → AsksAll link_of old new put0 put connections (Ok tt)
   asked_all old new put0 put number connections is asked = record { number = number; asked = asked; enough = inl is }
 
-  pub asked_last : (old now new : DoorShows L) (put0 put : List J) (number connections : ℕ) → new.left ≡ now.left → new.handed ≡ now.handed → new.out ≡ now.out → Tells now.left []
-      → HasAsked link_of old now put0 put number → AsksAll link_of old new put0 put connections
-  asked_last old now new put0 put number connections left handed out none asked =
-      let same : new ≡ now = same_door new now left handed out in
-      record {
-        number = number;
-        asked = subst (λ door. HasAsked link_of old door put0 put number) (sym same) asked;
-        enough = inr (subst (λ told. Tells told []) (sym left) none);
-      }
+  -- the door showed the same behind the last answer
+  module _ (old now new : DoorShows L) (put0 put : List J) (number connections : ℕ) (left : new.left ≡ now.left) (handed : new.handed ≡ now.handed) (out : new.out ≡ now.out) where
+    still : HasAsked link_of old now put0 put number → HasAsked link_of old new put0 put number
+    still asked = subst (λ door. HasAsked link_of old door put0 put number) (sym (same_door new now left handed out)) asked
+
+    pub asked_last : Tells now.left [] → HasAsked link_of old now put0 put number → AsksAll link_of old new put0 put connections (Ok tt)
+    asked_last none asked = record { number = number; asked = still asked; enough = inr (subst (λ told. Tells told []) (sym left) none) }
+
+    pub asked_some : (fault : ServeFault) → HasAsked link_of old now put0 put number → AsksAll link_of old new put0 put connections (Err fault)
+    asked_some fault asked = record { number = number; asked = still asked; enough = tt }

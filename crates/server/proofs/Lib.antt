@@ -1,5 +1,12 @@
 pub mod ReportLemmas
 pub mod ServeLemmas
 pub mod SplitLemmas
+pub mod TeamLemmas
 pub mod WorkLemmas
 pub mod AskLemmas
+pub mod CrewLemmas
+pub mod HandLemmas
+pub mod ShareLemmas
+pub mod FinishLemmas
+pub mod DoorLemmas
+pub mod SendLemmas

@@ -1,87 +1,53 @@
--- Links that are served one after another, and what the door was handed back.
-use Rattle.std.proofs.Common.{◌≡◌, ◌⊎◌, inl, inr, ℕ, ◌+◌, ◌<◌, ℤ, List, [], ◌∷◌, ◌++◌, map, length, Option, refl, sym, ap, ◌∙◌, subst, append-nil, arith}
-use Rattle.std.specs.Prelude.{All, flat_map}
-use Rattle.std.proofs.lemmas.List.{length-map, length-append, map-append}
-use Rattle.std.proofs.lemmas.List.Elements.{All-nil, All-cons, All-weaker}
-use Rattle.std.proofs.lemmas.List.Concat.{flat_map-cons}
-use Rattle.links.specs.Told.{more, Tells}
-use Rattle.links.proofs.ToldLemmas.{more-nil, more-more, GoesOn-nil}
+-- Links that are served one after another, and the report behind them.
+use Rattle.std.proofs.Common.{◌≡◌, ℕ, ℤ, List, [], ◌∷◌, ◌++◌, Option, refl, sym, ap, ◌∙◌, subst, append-nil, append_assoc}
+use Rattle.std.proofs.lemmas.List.Elements.{All-weaker}
 use Rattle.table_model.specs.History.{History}
 use Rattle.table_model.specs.Table.{Table}
-use Rattle.doors.specs.Door.{led_by}
-use Rattle.open_tables.specs.Tables.{TableView, OpenTable, AreTheirs, specs_of}
-use Rattle.call_plans.specs.Plans.{plan}
+use Rattle.open_tables.specs.Tables.{TableView, OpenTable}
 use Rattle.conn_service.specs.Served.{Planning}
-use Rattle.conn_service.specs.Computed.{AreAlone, histories_of}
-use Rattle.server.specs.Report.{Reports}
+use Rattle.conn_service.specs.Computed.{histories_of}
+use Rattle.server.specs.Report.{AreClosed, Reports}
 use Rattle.server.specs.Visits.{LinkShows, Visit, IsServed, EachSeesOthers, ServesInTurn}
-use Rattle.server.specs.Serving.{DoorShows, Share, IsShare, IsAmong, AreFronts, ServesDoor, entries_of, links_back, led}
-use Rattle.server.specs.Links.{HasServed, ServesLinks}
+use Rattle.server.specs.Serving.{DoorShows, Share, IsShare, AreFronts, ServesLinks, ServesDoor, entries_of}
+use Rattle.server.specs.Links.{LeavesPasses}
 use Rattle.server.proofs.ReportLemmas.{closed_alone}
 
--- ---- lists
+-- ---- passes
 
 pub sees_none : (passes : List TableView) → EachSeesOthers passes passes
 sees_none [] = tt
 sees_none (pass ∷ passes) = ((pass.seen, record { more = []; is = sym (append-nil pass.seen); others = refl; none_if_alone = λ alone. refl }, refl), sees_none passes)
 
-fronts_same : (histories : List History) → AreFronts histories histories
-fronts_same [] = tt
-fronts_same (history ∷ histories) = (([], append-nil history), fronts_same histories)
+pub fronts_then : (a b c : List History) → AreFronts a b → AreFronts b c → AreFronts a c
+fronts_then [] [] c first then = then
+fronts_then [] (y ∷ b) c first then = absurd first
+fronts_then (x ∷ a) [] c first then = absurd first
+fronts_then (x ∷ a) (y ∷ b) [] first then = absurd then
+fronts_then (x ∷ a) (y ∷ b) (z ∷ c) first then =
+    let f = first.0 in
+    let t = then.0 in
+    ((f.0 ++ t.0, sym (append_assoc x f.0 t.0) ∙ ap (λ l. l ++ t.0) f.1 ∙ t.1), fronts_then a b c first.1 then.1)
 
-fronts_of : (fronts histories : List History) → histories ≡ fronts → AreFronts fronts histories
-fronts_of fronts histories same = subst (AreFronts fronts) (sym same) (fronts_same fronts)
+-- what the passes have seen begins the histories with which their tables are closed
+closed_fronts : (tables : List OpenTable) (passes : List TableView) (engines : List Table) → AreClosed tables passes engines → AreFronts (histories_of passes) (entries_of engines)
+closed_fronts [] [] [] closed = tt
+closed_fronts [] [] (engine ∷ engines) closed = absurd closed
+closed_fronts [] (pass ∷ passes) engines closed = absurd closed
+closed_fronts (table ∷ tables) [] engines closed = absurd closed
+closed_fronts (table ∷ tables) (pass ∷ passes) [] closed = absurd closed
+closed_fronts (table ∷ tables) (pass ∷ passes) (engine ∷ engines) closed =
+    let reaches = closed.0.reaches in ((reaches.more, sym reaches.is), closed_fronts tables passes engines closed.1)
 
-module _ {L : Type 0} where
-  led_one : (visits : List (Visit L)) (visit : Visit L) (left : Option (List L))
-      → led (map (λ v. v.given) (visits ++ visit ∷ [])) left ≡ led (map (λ v. v.given) visits) (led_by visit.given left)
-  led_one [] visit left = refl
-  led_one (first ∷ visits) visit left = ap (led_by first.given) (led_one visits visit left)
+-- ---- links
 
-  all_among : (visits : List (Visit L)) → All (λ visit. IsAmong visit.given (map (λ v. v.given) visits)) visits
-  all_among [] = All-nil (λ visit. IsAmong visit.given [])
-  all_among (first ∷ visits) =
-      let P : Visit L → Type 0 = λ visit. IsAmong visit.given (map (λ v. v.given) (first ∷ visits)) in
-      All-cons P first visits (inl refl) (All-weaker (λ visit. IsAmong visit.given (map (λ v. v.given) visits)) P (λ visit is. inr is) visits (all_among visits))
-
-  -- what one worker hands back
-  back_one : (share : Share L) → flat_map links_back (share ∷ []) ≡ links_back share
-  back_one share = flat_map-cons links_back share [] ∙ append-nil (links_back share)
-
-module _ {L : Type 0} (shows : L → LinkShows) (asks : Planning) where
-  -- one link more, at the end
-  pub turn_more : (visits : List (Visit L)) (visit : Visit L) (passes between after : List TableView) (since middle until : Option (List ℤ))
-      → ServesInTurn shows asks visits passes between since middle → IsServed shows asks visit between after middle until
-      → ServesInTurn shows asks (visits ++ visit ∷ []) passes after since until
-  turn_more [] visit passes between after since middle until (sees, same) served =
-      (between, after, until, sees, subst (λ r. IsServed shows asks visit between after r until) same served, (sees_none after, refl))
-  turn_more (first ∷ visits) visit passes between after since middle until (b, behind, m, sees, is, others) served =
-      (b, behind, m, sees, is, turn_more visits visit behind between after m middle until others served)
-
-  pub none_served : (passes : List TableView) (door : DoorShows L) (readings : Option (List ℤ)) → HasServed shows asks passes passes door door readings readings 0
-  none_served passes door readings = record {
-    visits = [];
-    count = refl;
-    given = refl;
-    handed = sym (more-nil door.handed);
-    out = refl;
-    served = (sees_none passes, refl);
-  }
-
-  module _ (passes between after : List TableView) (old now behind : DoorShows L) (since middle until : Option (List ℤ)) (visit : Visit L) (number : ℕ) where
-    pub one_served : now.left ≡ led_by visit.given behind.left → behind.handed ≡ more now.handed (visit.back ∷ []) → behind.out ≡ now.out
-        → IsServed shows asks visit between after middle until → HasServed shows asks passes between old now since middle number → HasServed shows asks passes after old behind since until (number + 1)
-    one_served left handed out served so_far =
-        let visits = so_far.visits in
-        record {
-          visits = visits ++ visit ∷ [];
-          count = length-append visits (visit ∷ []) ∙ ap (λ n. n + 1) so_far.count;
-          given = so_far.given ∙ ap (led (map (λ v. v.given) visits)) left ∙ sym (led_one visits visit behind.left);
-          handed = handed ∙ ap (λ told. more told (visit.back ∷ [])) so_far.handed ∙ more-more old.handed (map (λ v. v.back) visits) (visit.back ∷ [])
-              ∙ ap (more old.handed) (sym (map-append (λ v. v.back) visits (visit ∷ [])));
-          out = out ∙ so_far.out;
-          served = turn_more visits visit passes between after since middle until so_far.served served;
-        }
+-- one link more, at the end
+pub turn_more : {L : Type 0} (shows : L → LinkShows) (asks : Planning) (visits : List (Visit L)) (visit : Visit L) (passes between after : List TableView) (since middle until : Option (List ℤ))
+    → ServesInTurn shows asks visits passes between since middle → IsServed shows asks visit between after middle until
+    → ServesInTurn shows asks (visits ++ visit ∷ []) passes after since until
+turn_more shows asks [] visit passes between after since middle until (sees, same) served =
+    (between, after, until, sees, subst (λ r. IsServed shows asks visit between after r until) same served, (sees_none after, refl))
+turn_more shows asks (first ∷ visits) visit passes between after since middle until (b, behind, m, sees, is, others) served =
+    (b, behind, m, sees, is, turn_more shows asks visits visit behind between after m middle until others served)
 
 -- doors that show the same
 pub same_door : {L : Type 0} (a b : DoorShows L) → a.left ≡ b.left → a.handed ≡ b.handed → a.out ≡ b.out → a ≡ b
@@ -89,63 +55,52 @@ same_door a b l h o = ap (λ x. record { left = x; handed = a.handed; out = a.ou
     ∙ ap (λ x. record { left = b.left; handed = x; out = a.out }) h
     ∙ ap (λ x. record { left = b.left; handed = b.handed; out = x }) o
 
--- so many as were wanted, or none is left
-module _ {L : Type 0} (shows : L → LinkShows) (asks : Planning) (passes after : List TableView) (old new : DoorShows L) (since until : Option (List ℤ)) (number connections : ℕ) where
-  pub as_wanted : number ≡ connections → HasServed shows asks passes after old new since until number → ServesLinks shows asks connections passes after old new since until
-  as_wanted is links = record { number = number; links = links; enough = inl is }
-
-  pub to_the_last : (now : DoorShows L) → new.left ≡ now.left → new.handed ≡ now.handed → new.out ≡ now.out → Tells now.left [] → HasServed shows asks passes after old now since until number
-      → ServesLinks shows asks connections passes after old new since until
-  to_the_last now left handed out none links =
-      let same : new ≡ now = same_door new now left handed out in
-      record {
-        number = number;
-        links = subst (λ door. HasServed shows asks passes after old door since until number) (sym same) links;
-        enough = inr (subst (λ told. Tells told []) (sym left) none);
-      }
-
--- a door that began to listen shows the same
-module _ {L : Type 0} (shows : L → LinkShows) (asks : Planning) (connections : ℕ) (passes after : List TableView) (old listens new : DoorShows L) (since until : Option (List ℤ)) where
-  pub listening : listens.left ≡ old.left → listens.handed ≡ old.handed → listens.out ≡ old.out
-      → ServesLinks shows asks connections passes after listens new since until → ServesLinks shows asks connections passes after old new since until
-  listening left handed out links = subst (λ door. ServesLinks shows asks connections passes after door new since until) (same_door listens old left handed out) links
-
 -- ---- all of them, and the report
 
-module _ {L : Type 0} (shows : L → LinkShows) (tables : List OpenTable) (workers connections : ℕ) (passes after : List TableView)
-    (old new : DoorShows L) (before now : Option (List ℤ)) (taken0 taken : Option (List ℕ)) (engines : List Table) where
-  pub serves_door : 0 < workers → AreTheirs tables passes → AreAlone after → ServesLinks shows (plan (specs_of tables)) connections passes after old new before now
-      → Reports tables after taken0 taken engines → ServesDoor shows tables workers connections passes old new before now taken0 taken engines
-  serves_door some theirs alone links reports =
-      let visits = links.links.visits in
-      let gave = map (λ (v : Visit L). v.given) visits in
-      let share : Share L = record { visits = visits; passes = passes; after = after; since = before; until = now } in
-      let exact : entries_of engines ≡ histories_of after = closed_alone tables after engines reports.closed alone in
-      let is : IsShare shows tables passes gave before now (entries_of engines) share = record {
-        theirs = theirs;
-        begins = refl;
-        among = all_among visits;
-        begun = ([], GoesOn-nil before);
-        ended = ([], GoesOn-nil now);
-        served = links.links.served;
-        within = fronts_of (histories_of after) (entries_of engines) exact;
-      } in
-      record {
-        gave = gave;
-        given = links.links.given;
-        enough = by_count links.enough;
-        shares = share ∷ [];
-        few = omega (arith, some);
-        handed = links.links.handed ∙ ap (more old.handed) (sym (back_one share));
-        as_many = ap length (back_one share) ∙ length-map visits (λ (v : Visit L). v.back) ∙ sym (length-map visits (λ (v : Visit L). v.given));
-        out = links.links.out;
-        each = All-cons (IsShare shows tables passes gave before now (entries_of engines)) share [] is (All-nil (IsShare shows tables passes gave before now (entries_of engines)));
-        differ = (All-nil _, tt);
-        alone = λ few. exact;
-        last = after;
-        reports = reports;
-      }
-    where
-      by_count : (links.number ≡ connections) ⊎ Tells new.left [] → (length (map (λ (v : Visit L). v.given) links.links.visits) ≡ connections) ⊎ Tells new.left []
-      by_count (inl is) = inl (length-map links.links.visits (λ (v : Visit L). v.given) ∙ links.links.count ∙ is)
-      by_count (inr none) = inr none
+module _ {L : Type 0} (shows : L → LinkShows) (clones : Option (List ℤ) → Type 0) (tables : List OpenTable) (workers connections : ℕ) (passes : List TableView)
+    (old new : DoorShows L) (before now : Option (List ℤ)) where
+  -- a door that began to listen shows the same
+  listening : (listens : DoorShows L) (histories : List History) → listens.left ≡ old.left → listens.handed ≡ old.handed → listens.out ≡ old.out
+      → ServesLinks shows clones tables workers connections passes listens new before now histories → ServesLinks shows clones tables workers connections passes old new before now histories
+  listening listens histories left handed out links =
+      subst (λ door. ServesLinks shows clones tables workers connections passes door new before now histories) (same_door listens old left handed out) links
+
+  module _ (after : List TableView) (engines : List Table) (closed : AreClosed tables after engines) where
+    further : (gave : List L) (share : Share L) → IsShare shows tables passes gave (histories_of after) share → IsShare shows tables passes gave (entries_of engines) share
+    further gave share is = record {
+      theirs = is.theirs;
+      begins = is.begins;
+      among = is.among;
+      served = is.served;
+      within = fronts_then (histories_of share.after) (histories_of after) (entries_of engines) is.within (closed_fronts tables after engines closed);
+    }
+
+    closes : LeavesPasses shows clones tables workers connections passes after old new before now → ServesLinks shows clones tables workers connections passes old new before now (entries_of engines)
+    closes leaves =
+        let links = leaves.links in
+        record {
+          gave = links.gave;
+          given = links.given;
+          enough = links.enough;
+          shares = links.shares;
+          few = links.few;
+          handed = links.handed;
+          as_many = links.as_many;
+          out = links.out;
+          each = All-weaker (IsShare shows tables passes links.gave (histories_of after)) (IsShare shows tables passes links.gave (entries_of engines)) (further links.gave) links.shares links.each;
+          differ = links.differ;
+          clocks = links.clocks;
+          alone = λ few. closed_alone tables after engines closed (leaves.alone few) ∙ links.alone few;
+        }
+
+-- the links of a door that began to listen, and the report
+pub serves_door : {L : Type 0} (shows : L → LinkShows) (clones : Option (List ℤ) → Type 0) (tables : List OpenTable) (workers connections : ℕ) (passes after : List TableView)
+    (old listens new : DoorShows L) (before now : Option (List ℤ)) (taken0 taken : Option (List ℕ)) (engines : List Table) → listens.left ≡ old.left → listens.handed ≡ old.handed → listens.out ≡ old.out
+    → LeavesPasses shows clones tables workers connections passes after listens new before now → Reports tables after taken0 taken engines
+    → ServesDoor shows clones tables workers connections passes old new before now taken0 taken engines
+serves_door shows clones tables workers connections passes after old listens new before now taken0 taken engines left handed out leaves reports = record {
+  links = listening shows clones tables workers connections passes old new before now listens (entries_of engines) left handed out
+      (closes shows clones tables workers connections passes listens new before now after engines reports.closed leaves);
+  last = after;
+  reports = reports;
+}

@@ -89,14 +89,14 @@ module _ (tables : List OpenTable) (passes others left right : List TableView) (
   pub split_turn : (n : ℕ) (turn : Home (List Column)) → n ≡ length left → Splitting tables passes others left right → IfSome (slice_get tables n) (λ t. t.1 ≡ turn) → IsOf turn pass
   split_turn n turn is s has = has_turn tables others (length left) pass others' others_is turn s.stands (subst (λ m. IfSome (slice_get tables m) (λ t. t.1 ≡ turn)) is has)
 
-  pub one_split : (l r : TableView) (left' right' : List TableView) → left' ≡ left ++ l ∷ [] → right' ≡ right ++ r ∷ [] → Splits caller_in pass l r
+  pub one_split : (l r : TableView) (left' right' : List TableView) → left' ≡ left ++ l ∷ [] → right' ≡ right ++ r ∷ [] → Splits caller_in pass l r → pass.number < pass.bound
       → Splitting tables passes others left right → Splitting tables passes others' left' right'
-  one_split l r left' right' left_is right_is splits s = record {
+  one_split l r left' right' left_is right_is splits below s = record {
     stands = subst (Standing tables others') (sym (ap length left_is ∙ length-append left (l ∷ []))) (stands_more tables others (length left) pass others' others_is s.stands);
     splits = λ ls rs are.
         subst (λ x. AreSplit passes x (right' ++ rs)) (sym (ap (λ z. z ++ ls) left_is ∙ append_assoc left (l ∷ []) ls))
         (subst (λ x. AreSplit passes (left ++ l ∷ ls) x) (sym (ap (λ z. z ++ rs) right_is ∙ append_assoc right (r ∷ []) rs))
-        (s.splits (l ∷ ls) (r ∷ rs) (subst (λ os. AreSplit os (l ∷ ls) (r ∷ rs)) (sym others_is) (splits, are))));
+        (s.splits (l ∷ ls) (r ∷ rs) (subst (λ os. AreSplit os (l ∷ ls) (r ∷ rs)) (sym others_is) (splits, below, are))));
   }
 
 pub all_split : (tables : List OpenTable) (passes others left right : List TableView) → length others ≡ 0 → Splitting tables passes others left right → AreSplit passes left right
@@ -166,3 +166,34 @@ all_joined tables keep give keeps gives joined none s =
     let rest = same_rest s.other.front s.other.rest s.mine.front s.mine.rest (sym s.other.is ∙ s.mine.is) (sym s.other.done ∙ s.mine.done) in
     let are = both_none s.mine.rest keeps gives s.mine.theirs (subst (λ r. AreTheirs r gives) rest s.other.theirs) none in
     subst (λ x. AreJoined keep give x) (append-nil joined) (s.joins [] (subst (λ ks. AreJoined ks gives []) (sym are.0) (subst (λ gs. AreJoined [] gs []) (sym are.1) tt)))
+
+-- ---- whose the passes are
+
+pub split_theirs : (tables : List OpenTable) (passes left right : List TableView) → AreTheirs tables passes → AreSplit passes left right → AreTheirs tables left × AreTheirs tables right
+split_theirs [] [] [] [] theirs are = (tt, tt)
+split_theirs [] [] [] (r ∷ right) theirs are = absurd are
+split_theirs [] [] (l ∷ left) right theirs are = absurd are
+split_theirs [] (p ∷ passes) left right theirs are = absurd theirs
+split_theirs (t ∷ tables) [] left right theirs are = absurd theirs
+split_theirs (t ∷ tables) (p ∷ passes) [] right theirs are = absurd are
+split_theirs (t ∷ tables) (p ∷ passes) (l ∷ left) [] theirs are = absurd are
+split_theirs (t ∷ tables) (p ∷ passes) (l ∷ left) (r ∷ right) theirs are =
+    let rest = split_theirs tables passes left right theirs.1 are.2 in
+    let mine = theirs.0 in
+    let kept = are.0.kept in
+    let new = are.0.new in (
+      (record { table = ap (λ v. v.table) kept ∙ mine.table; same = ap (λ v. v.fixed) kept ∙ mine.same }, rest.0),
+      (record { table = ap (λ v. v.table) new ∙ mine.table; same = ap (λ v. v.fixed) new ∙ mine.same }, rest.1),
+    )
+
+pub joined_theirs : (tables : List OpenTable) (keep give after : List TableView) → AreTheirs tables keep → AreJoined keep give after → AreTheirs tables after
+joined_theirs [] [] [] [] theirs are = tt
+joined_theirs [] [] [] (a ∷ after) theirs are = absurd are
+joined_theirs [] [] (g ∷ give) after theirs are = absurd are
+joined_theirs [] (k ∷ keep) give after theirs are = absurd theirs
+joined_theirs (t ∷ tables) [] give after theirs are = absurd theirs
+joined_theirs (t ∷ tables) (k ∷ keep) [] after theirs are = absurd are
+joined_theirs (t ∷ tables) (k ∷ keep) (g ∷ give) [] theirs are = absurd are
+joined_theirs (t ∷ tables) (k ∷ keep) (g ∷ give) (a ∷ after) theirs are =
+    let mine = theirs.0 in
+    (record { table = ap (λ v. v.table) are.0.is ∙ mine.table; same = ap (λ v. v.fixed) are.0.is ∙ mine.same }, joined_theirs tables keep give after theirs.1 are.1)

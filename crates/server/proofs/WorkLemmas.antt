@@ -1,10 +1,10 @@
 -- Jobs that a worker takes one after another.
-use Rattle.std.proofs.Common.{◌≡◌, ℕ, ℤ, List, [], ◌∷◌, ◌++◌, map, length, Option, Some, None, refl, sym, ap, ◌∙◌, subst, append_assoc, append-nil, arith, unwrap_or}
+use Rattle.std.proofs.Common.{◌≡◌, ℤ, List, [], ◌∷◌, ◌++◌, map, length, Option, Some, None, refl, sym, ap, ◌∙◌, append_assoc, append-nil, arith, unwrap_or}
 use Rattle.std.proofs.lemmas.List.{map-append}
 use Rattle.links.specs.Told.{Tells}
 use Rattle.open_tables.specs.Tables.{TableView}
 use Rattle.conn_service.specs.Served.{Planning}
-use Rattle.server.specs.Visits.{LinkShows, Visit, IsServed, ServesInTurn}
+use Rattle.server.specs.Visits.{LinkShows, Visit, IsServed}
 use Rattle.server.specs.Works.{HasWorked}
 use Rattle.server.proofs.ServeLemmas.{sees_none, turn_more}
 

@@ -5,3 +5,5 @@ pub mod Links
 pub mod Splits
 pub mod Works
 pub mod Asks
+pub mod Crew
+pub mod Finish

@@ -1,7 +1,7 @@
 -- What serving the links of a door does, for any number of workers.
 use Rattle.std.specs.Prelude.{◌≡◌, ◌⊎◌, ℕ, ◌≤◌, ℤ, List, [], ◌∷◌, map, length, flat_map, Option, Result, Ok, Err, All}
 use Rattle.outside.specs.Faults.{Rose}
-use Rattle.links.specs.Told.{more, Tells, GoesOn}
+use Rattle.links.specs.Told.{more, Tells}
 use Rattle.table_model.specs.History.{History}
 use Rattle.table_model.specs.Table.{Table}
 use Rattle.h2_record.specs.Written.{IsFront}
@@ -41,10 +41,6 @@ pub record Share (L : Type 0) : Type 0 where
 abbrev pub links_back : {L : Type 0} → Share L → List L
 links_back share = map (λ visit. visit.back) share.visits
 
--- the clock was read further, if at all
-abbrev pub IsLater : (before now : Option (List ℤ)) → Type 0
-IsLater before now = (readings : List ℤ) × GoesOn before readings now
-
 -- each is a front of the history of its table
 abbrev pub AreFronts : List History → List History → Type 0
 AreFronts [] [] = Unit {0}
@@ -64,14 +60,18 @@ EachDiffers (share ∷ shares) = All (λ other. Differ share.passes other.passes
 
 -- A worker served its links, each one of those that the door gave, one after another: from what the given passes had seen
 -- up to fronts of the histories.
-pub record IsShare {L : Type 0} (shows : L → LinkShows) (tables : List OpenTable) (passes : List TableView) (gave : List L) (before now : Option (List ℤ)) (histories : List History) (share : Share L) : Type 0 where
+pub record IsShare {L : Type 0} (shows : L → LinkShows) (tables : List OpenTable) (passes : List TableView) (gave : List L) (histories : List History) (share : Share L) : Type 0 where
   pub theirs : AreTheirs tables share.passes
   pub begins : histories_of share.passes ≡ histories_of passes
   pub among : All (λ visit. IsAmong visit.given gave) share.visits
-  pub begun : IsLater before share.since
-  pub ended : IsLater share.until now
   pub served : ServesInTurn shows (plan (specs_of tables)) share.visits share.passes share.after share.since share.until
   pub within : AreFronts (histories_of share.after) histories
+
+-- The first worker read the given clock, each other one a clone of it: the readings that a clone has told when it is made
+-- are for the clock to say, and what it tells later are its own.
+abbrev pub HaveClocks : {L : Type 0} → (clones : Option (List ℤ) → Type 0) → (before now : Option (List ℤ)) → List (Share L) → Type 0
+HaveClocks clones before now [] = now ≡ before
+HaveClocks clones before now (share ∷ shares) = (share.since ≡ before) × (share.until ≡ now) × All (λ other. clones other.since) shares
 
 -- what the passes of the first worker had seen at last; without one, what the given passes had
 abbrev pub last_seen : {L : Type 0} → List TableView → List (Share L) → List TableView
@@ -81,10 +81,9 @@ last_seen passes (share ∷ shares) = share.after
 abbrev pub entries_of : List Table → List History
 entries_of engines = map (λ engine. engine.entries) engines
 
--- The door gave so many links, or has none left, and each was served, closed and handed back; then the tables were
--- reported.
-pub record ServesDoor {L : Type 0} (shows : L → LinkShows) (tables : List OpenTable) (workers connections : ℕ) (passes : List TableView)
-    (old new : DoorShows L) (before now : Option (List ℤ)) (taken0 taken : Option (List ℕ)) (engines : List Table) : Type 0 where
+-- The door gave so many links, or has none left, and each was served, closed and handed back.
+pub record ServesLinks {L : Type 0} (shows : L → LinkShows) (clones : Option (List ℤ) → Type 0) (tables : List OpenTable) (workers connections : ℕ) (passes : List TableView)
+    (old new : DoorShows L) (before now : Option (List ℤ)) (histories : List History) : Type 0 where
   -- what the door gave
   pub gave : List L
   pub given : old.left ≡ led gave new.left
@@ -96,11 +95,17 @@ pub record ServesDoor {L : Type 0} (shows : L → LinkShows) (tables : List Open
   pub as_many : length (flat_map links_back shares) ≡ length gave
   pub out : new.out ≡ old.out
   -- each worker served its own, by numbers of its own
-  pub each : All (IsShare shows tables passes gave before now (entries_of engines)) shares
+  pub each : All (IsShare shows tables passes gave histories) shares
   pub differ : EachDiffers shares
+  pub clocks : HaveClocks clones before now shares
   -- where one worker served all, or none had to, the histories have no entry but those that its passes had seen
-  pub alone : length shares ≤ 1 → entries_of engines ≡ histories_of (last_seen passes shares)
-  -- one report is written over the engines
+  pub alone : length shares ≤ 1 → histories ≡ histories_of (last_seen passes shares)
+
+-- The links of the door were served over the tables whose histories these engines have, and then one report was written
+-- over the engines.
+pub record ServesDoor {L : Type 0} (shows : L → LinkShows) (clones : Option (List ℤ) → Type 0) (tables : List OpenTable) (workers connections : ℕ) (passes : List TableView)
+    (old new : DoorShows L) (before now : Option (List ℤ)) (taken0 taken : Option (List ℕ)) (engines : List Table) : Type 0 where
+  pub links : ServesLinks shows clones tables workers connections passes old new before now (entries_of engines)
   pub last : List TableView
   pub reports : Reports tables last taken0 taken engines
 

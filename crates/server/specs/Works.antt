@@ -1,5 +1,5 @@
 -- What a worker does with the jobs that it takes.
-use Rattle.std.specs.Prelude.{◌≡◌, ℕ, ℤ, List, [], ◌∷◌, ◌++◌, map, Option}
+use Rattle.std.specs.Prelude.{◌≡◌, ℤ, List, ◌++◌, map, Option}
 use Rattle.open_tables.specs.Tables.{TableView}
 use Rattle.conn_service.specs.Served.{Planning}
 use Rattle.server.specs.Visits.{LinkShows, Visit, ServesInTurn}

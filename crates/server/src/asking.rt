@@ -1,8 +1,8 @@
 //! The door is asked for links, which go to the workers.
 
-ghost use Rattle.std.specs.Prelude.{◌≡◌, ◌<◌, true, OnOk};
+ghost use Rattle.std.specs.Prelude.{◌≡◌, ◌<◌, true};
 ghost use Rattle.job_queue.specs.Hands.{IsOf, known};
-ghost use Rattle.server.specs.Links.{LinksCause};
+ghost use Rattle.server.specs.Links.{AsksCause};
 ghost use Rattle.server.specs.Asks.{AsksAll};
 
 use crate::ServeFault;
@@ -27,11 +27,11 @@ fn put_links<R: Wait, L: Link, D: Door<L>>(
     ensures parts { (known hand.new).parts ≡ (known hand.old).parts }
     ensures puts { (known hand.new).puts ≡ true }
     ensures taken { (known hand.new).taken ≡ (known hand.old).taken }
-    ensures asks { OnOk result (AsksAll (λ job. job.link)
+    ensures asks { AsksAll (λ job. job.link)
         (record { left = D.left door.old; handed = D.handed door.old; out = D.out door.old })
         (record { left = D.left door.new; handed = D.handed door.new; out = D.out door.new })
-        (known hand.old).put (known hand.new).put connections) }
-    ensures cause { LinksCause (D.faults door.old) (D.faults door.new) result }
+        (known hand.old).put (known hand.new).put connections result }
+    ensures cause { AsksCause (D.faults door.old) (D.faults door.new) result }
 {
     for number in 0..connections {
         match door.next() {
@@ -58,11 +58,11 @@ pub(crate) fn ask<R: Wait, L: Link, D: Door<L>>(
     ensures parts { (known hand.new).parts ≡ (known hand.old).parts }
     ensures puts { (known hand.new).puts ≡ true }
     ensures taken { (known hand.new).taken ≡ (known hand.old).taken }
-    ensures asks { OnOk result (AsksAll (λ job. job.link)
+    ensures asks { AsksAll (λ job. job.link)
         (record { left = D.left door.old; handed = D.handed door.old; out = D.out door.old })
         (record { left = D.left door.new; handed = D.handed door.new; out = D.out door.new })
-        (known hand.old).put (known hand.new).put connections) }
-    ensures cause { LinksCause (D.faults door.old) (D.faults door.new) result }
+        (known hand.old).put (known hand.new).put connections result }
+    ensures cause { AsksCause (D.faults door.old) (D.faults door.new) result }
 {
     let asked = put_links(rt, connections, queue, hand, door);
     queue.close(rt);

@@ -18,6 +18,7 @@ pub(crate) fn split_all<R: Wait>(
 ) -> Result<(Passes, Passes), Memory>
     requires theirs { AreTheirs tables.now passes }
     ensures splits { IfOk result (λ both. AreSplit passes both.0 both.1) }
+    ensures theirs { IfOk result (λ both. AreTheirs tables.now both.0 × AreTheirs tables.now both.1) }
 {
     let mut kept = Vec::with_capacity(alloc, passes.each.len())?;
     let mut new = Vec::with_capacity(alloc, passes.each.len())?;
@@ -25,6 +26,7 @@ pub(crate) fn split_all<R: Wait>(
         let Ok(place) = u32::try_from(kept.len()) else {
             return Err(Memory);
         };
+        pass.number_is_below();
         let (left, right) = tables.turn(place).split_pass(rt, alloc, pass);
         kept.push(left)?;
         new.push(right?)?;
@@ -42,6 +44,7 @@ pub(crate) fn join_all(
     requires keep { AreTheirs tables.now keep }
     requires give { AreTheirs tables.now give }
     ensures joins { IfOk result (λ after. AreJoined keep give after) }
+    ensures theirs { IfOk result (λ after. AreTheirs tables.now after) }
 {
     let mut joined = Vec::with_capacity(alloc, keep.each.len())?;
     for (mine, other) in keep.each.into_iter().zip(give.each) {

@@ -1,7 +1,7 @@
 -- Each link that the door gives is put.
 use Rattle.std.proofs.Common.{◌≡◌, ◌<◌, ◌+◌, ◌∙◌, sym, ap, subst, arith, refl}
 use Rattle.outside.specs.Faults.{Rose}
-use Rattle.server.proofs.AskLemmas.{none_asked, one_asked, asked_all, asked_last}
+use Rattle.server.proofs.AskLemmas.{none_asked, one_asked, asked_all, asked_last, asked_some}
 use Rattle.server.proofs.asking.put_links.Goals as goal
 
 pub loop-number-init : goal.loop-number-init
@@ -30,6 +30,11 @@ pub returns-in-Closed-clause-asks : goal.returns-in-Closed-clause-asks
 returns-in-Closed-clause-asks g c =
     let closed = c.in-Closed.ensures in
     asked_last _ _ _ _ _ _ _ _ closed.gives.0 closed.handed closed.out closed.gives.1 c.loop-number.invariant.5
+
+pub returns-in-Failed-clause-asks : goal.returns-in-Failed-clause-asks
+returns-in-Failed-clause-asks g c =
+    let failed = c.in-Failed.ensures in
+    asked_some _ _ _ _ _ _ _ _ failed.gives failed.handed failed.out _ c.loop-number.invariant.5
 
 pub returns-in-Failed-clause-cause : goal.returns-in-Failed-clause-cause
 returns-in-Failed-clause-cause g c =

@@ -1,43 +1,61 @@
--- Each link that the door gives is served and handed back.
-use Rattle.std.proofs.Common.{◌≡◌, [], ◌∷◌, sym, ap, ◌∙◌, subst, arith, refl}
-use Rattle.links.specs.Told.{more}
-use Rattle.doors.specs.Door.{led_by}
-use Rattle.outside.specs.Faults.{Rose}
-use Rattle.server.proofs.ServeLemmas.{none_served, one_served, as_wanted, to_the_last}
+-- The workers are made, serve beside the thread that asks, and are joined.
+use Rattle.std.proofs.Common.{ap, ◌∙◌, arith}
+use Rattle.job_queue.specs.Hands.{IsOf}
+use Rattle.server.proofs.DoorLemmas.{leaves}
+use Rattle.server.proofs.FinishLemmas.{ok_of, asks_ok, crew_ready, after_theirs, after_hands, after_takers, after_parts, after_links, after_length, after_did}
 use Rattle.server.proofs.serving.serve_links.Goals as goal
 
-pub loop-number-init : goal.loop-number-init
-loop-number-init g c = (c.requires.theirs, c.requires.alone, refl, none_served _ _ _ _ _)
+pub serve_beside-worked-requires-clause-ready : goal.serve_beside-worked-requires-clause-ready
+serve_beside-worked-requires-clause-ready g c κs within =
+    crew_ready _ _ _ _ _ _ _ _ _ _ c.in_ok-crew.ensures.crew (λ worker. IsOf c.in-Ok.queue worker.hand) c.in_ok-crew.ensures.hands
 
-pub loop-number-preserved : goal.loop-number-preserved
-loop-number-preserved g c =
-    let inv = c.loop-number.invariant in
-    let gives = c.in-Conn.ensures.gives in
-    let back = c.back.ensures in
-    let left = gives.0 ∙ sym (ap (λ told. led_by c.in-Conn.link told) back.left) in
-    let handed = back.handed ∙ ap (λ told. more told (c.serve_link-after.result.1 ∷ [])) c.in-Conn.ensures.handed in
-    let out : g.D.Door.out c.back.new.self ≡ g.D.Door.out c.loop-number.door = omega (arith, back.out, c.in-Conn.ensures.out) in (
-      c.serve_link-after.ensures.theirs,
-      c.serve_link-after.ensures.alone,
-      back.faults ∙ c.in-Conn.ensures.cause ∙ inv.2,
-      one_served _ _ _ _ _ _ _ _ _ _ _ (record { given = c.in-Conn.link; back = c.serve_link-after.result.1 }) _ left handed out c.serve_link-after.ensures.served inv.3,
+pub finish-finished-requires-clause-some : goal.finish-finished-requires-clause-some
+finish-finished-requires-clause-some g c =
+    let works = ok_of _ _ _ c.in-Ok-worked.is c.serve_beside-worked.ensures.works in
+    let count = after_length _ _ _ _ _ _ g.C.Clock.readings _ _ _ _ _ _ _ (λ worker. IsOf c.in-Ok.queue worker.hand) c.in_ok-crew.ensures.crew works in
+    omega (arith, count, c.in-Ok-worked.crew.ok.0, c.requires.workers)
+
+pub finish-finished-requires-clause-theirs : goal.finish-finished-requires-clause-theirs
+finish-finished-requires-clause-theirs g c =
+    let works = ok_of _ _ _ c.in-Ok-worked.is c.serve_beside-worked.ensures.works in
+    after_theirs _ _ _ _ _ _ g.C.Clock.readings _ _ _ _ _ _ _ (λ worker. IsOf c.in-Ok.queue worker.hand) c.in_ok-crew.ensures.crew works
+
+pub finish-finished-requires-clause-hands : goal.finish-finished-requires-clause-hands
+finish-finished-requires-clause-hands g c =
+    let works = ok_of _ _ _ c.in-Ok-worked.is c.serve_beside-worked.ensures.works in
+    after_hands _ _ _ _ _ _ g.C.Clock.readings _ _ _ _ _ _ _ (λ worker. IsOf c.in-Ok.queue worker.hand) c.in_ok-crew.ensures.crew works
+
+pub finish-finished-requires-clause-takers : goal.finish-finished-requires-clause-takers
+finish-finished-requires-clause-takers g c =
+    let works = ok_of _ _ _ c.in-Ok-worked.is c.serve_beside-worked.ensures.works in
+    after_takers _ _ _ _ _ _ g.C.Clock.readings _ _ _ _ _ _ _ (λ worker. IsOf c.in-Ok.queue worker.hand) c.in_ok-crew.ensures.crew works
+
+pub finish-finished-requires-clause-parts : goal.finish-finished-requires-clause-parts
+finish-finished-requires-clause-parts g c =
+    let works = ok_of _ _ _ c.in-Ok-worked.is c.serve_beside-worked.ensures.works in
+    after_parts _ _ _ _ _ _ g.C.Clock.readings _ _ _ _ _ _ _ (λ worker. IsOf c.in-Ok.queue worker.hand) c.in_ok-crew.ensures.crew works
+
+pub finish-finished-requires-clause-links : goal.finish-finished-requires-clause-links
+finish-finished-requires-clause-links g c =
+    let works = ok_of _ _ _ c.in-Ok-worked.is c.serve_beside-worked.ensures.works in
+    after_links _ _ _ _ _ _ g.C.Clock.readings _ _ _ _ _ _ _ (λ worker. IsOf c.in-Ok.queue worker.hand) c.in_ok-crew.ensures.crew works
+
+pub finish-finished-requires-clause-hand : goal.finish-finished-requires-clause-hand
+finish-finished-requires-clause-hand g c =
+    let works = ok_of _ _ _ c.in-Ok-worked.is c.serve_beside-worked.ensures.works in
+    let count = after_length _ _ _ _ _ _ g.C.Clock.readings _ _ _ _ _ _ _ (λ worker. IsOf c.in-Ok.queue worker.hand) c.in_ok-crew.ensures.crew works in
+    let hand = c.serve_beside-worked.ensures.hand in
+    let all = ap (λ v. v.parts) c.in-Ok.ensures.known in (
+      hand.0,
+      omega (arith, count, c.in-Ok-worked.crew.ok.0, hand.1, c.in_ok-crew.ensures.parts, all),
+      omega (arith, hand.1, c.in_ok-crew.ensures.parts, all, c.ranges.workers.fits),
     )
-
-pub serve_link-after-requires-clause-theirs : goal.serve_link-after-requires-clause-theirs
-serve_link-after-requires-clause-theirs g c = c.loop-number.invariant.0
-
-pub serve_link-after-requires-clause-alone : goal.serve_link-after-requires-clause-alone
-serve_link-after-requires-clause-alone g c = c.loop-number.invariant.1
 
 pub returns-clause-serves : goal.returns-clause-serves
 returns-clause-serves g c =
-    as_wanted _ _ _ _ _ _ _ _ _ _ (omega (arith, c.loop-number-test.false, c.loop-number.auto.number-end)) c.loop-number.invariant.3
-
-pub returns-in-Closed-clause-serves : goal.returns-in-Closed-clause-serves
-returns-in-Closed-clause-serves g c =
-    let closed = c.in-Closed.ensures in
-    to_the_last _ _ _ _ _ _ _ _ _ _ _ closed.gives.0 closed.handed closed.out closed.gives.1 c.loop-number.invariant.3
-
-pub returns-in-Failed-clause-cause : goal.returns-in-Failed-clause-cause
-returns-in-Failed-clause-cause g c =
-    subst (λ before. Rose before (g.D.Door.faults c.next.new.self)) c.loop-number.invariant.2 c.in-Failed.ensures.cause
+    let works = ok_of _ _ _ c.in-Ok-worked.is c.serve_beside-worked.ensures.works in
+    let did = after_did _ _ _ _ _ _ g.C.Clock.readings _ _ _ _ _ _ _ (λ worker. IsOf c.in-Ok.queue worker.hand) c.in_ok-crew.ensures.crew works in
+    let put = c.in_ok-crew.ensures.put ∙ ap (λ v. v.put) c.in-Ok.ensures.known in
+    let taken = c.serve_beside-worked.ensures.hand.3 ∙ c.in_ok-crew.ensures.taken ∙ ap (λ v. v.taken) c.in-Ok.ensures.known in
+    let asks = asks_ok _ _ _ _ _ _ _ _ c.in_ok-asked-2.was put c.serve_beside-worked.ensures.asks in
+    leaves _ _ _ _ _ _ _ g.C.Clock.readings _ _ _ _ _ _ _ _ _ _ _ _ _ c.in_ok-crew.ensures.crew did asks taken c.in_ok-finished.ensures.finished c.requires.alone

@@ -1,7 +1,7 @@
 -- The passes come side by side.
 use Rattle.std.proofs.Common.{rules}
 use Rattle.server.proofs.ReportLemmas.{none_given}
-use Rattle.server.proofs.SplitLemmas.{keep_turn, give_turn, one_joined, all_joined}
+use Rattle.server.proofs.SplitLemmas.{keep_turn, give_turn, one_joined, all_joined, joined_theirs}
 use Rattle.server.proofs.splits.join_all.Goals as goal
 
 pub join_pass-requires-clause-keep : goal.join_pass-requires-clause-keep
@@ -25,4 +25,5 @@ loop-mine-preserved c =
 pub returns : goal.returns
 returns c =
     let rest = c.loop-mine.mine-iterator in
-    record { joins = all_joined _ _ _ _ _ _ (none_given _ _ _ _ rest.a.rest.ok.0 rest.b.rest.ok.0 c.in-None.ensures.steps) c.loop-mine.invariant.2 }
+    let joins = all_joined _ _ _ _ _ _ (none_given _ _ _ _ rest.a.rest.ok.0 rest.b.rest.ok.0 c.in-None.ensures.steps) c.loop-mine.invariant.2 in
+    record { joins = joins; theirs = joined_theirs _ _ _ _ c.requires.keep joins }

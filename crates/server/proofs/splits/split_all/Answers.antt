@@ -1,8 +1,8 @@
 -- One pass after another is split.
-use Rattle.std.proofs.Common.{rules, sym, ap, ◌∙◌, ◌∷◌, [], ◌++◌, subst, IfOk}
+use Rattle.std.proofs.Common.{rules, sym, ◌∙◌}
 use Rattle.turn_table.specs.View.{Splits}
 use Rattle.open_tables.specs.Plans.{caller_in}
-use Rattle.server.proofs.SplitLemmas.{split_turn, one_split, all_split}
+use Rattle.server.proofs.SplitLemmas.{split_turn, one_split, all_split, split_theirs}
 use Rattle.server.proofs.splits.split_all.Goals as goal
 
 pub split_pass-left-requires : goal.split_pass-left-requires
@@ -15,9 +15,10 @@ loop-pass-preserved g c =
       tt,
       tt,
       one_split _ _ _ _ _ c.in-Some.pass _ c.in-Some.ensures.steps.0 c.split_pass-left.result.0 c.in_ok-right.field-0 _ _ c.in_ok-push.ensures.items c.in_ok-push-2.ensures.items splits
-          c.loop-pass.invariant.2,
+          c.number_is_below.ensures c.loop-pass.invariant.2,
     )
 
 pub returns : goal.returns
 returns g c =
-    record { splits = all_split _ _ _ _ _ (sym c.loop-pass.pass-iterator.rest.ok.0 ∙ c.in-None.ensures.steps.0) c.loop-pass.invariant.2 }
+    let splits = all_split _ _ _ _ _ (sym c.loop-pass.pass-iterator.rest.ok.0 ∙ c.in-None.ensures.steps.0) c.loop-pass.invariant.2 in
+    record { splits = splits; theirs = split_theirs _ _ _ _ c.requires.theirs splits }

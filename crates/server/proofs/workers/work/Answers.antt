@@ -1,5 +1,5 @@
 -- Each job that is taken is served.
-use Rattle.std.proofs.Common.{◌≡◌, ◌∙◌, ◌++◌, ◌∷◌, [], ap, refl}
+use Rattle.std.proofs.Common.{◌∙◌, ◌++◌, ◌∷◌, [], ap, refl}
 use Rattle.server.proofs.WorkLemmas.{no_work, more_work}
 use Rattle.server.proofs.workers.work.Goals as goal
 

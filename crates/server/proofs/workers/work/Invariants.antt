@@ -1,5 +1,5 @@
 -- The jobs so far were served.
-use Rattle.std.proofs.Common.{◌≡◌, ◌<◌}
+use Rattle.std.proofs.Common.{◌≡◌}
 use Rattle.open_tables.specs.Tables.{AreTheirs, specs_of}
 use Rattle.call_plans.specs.Plans.{plan}
 use Rattle.conn_service.specs.Computed.{AreAlone}
