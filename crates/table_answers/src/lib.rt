@@ -14,10 +14,6 @@ mod row_descriptor_tests;
 #[cfg(test)]
 mod schema_msgs_tests;
 #[cfg(test)]
-mod table_engine_tests;
-#[cfg(test)]
-mod table_model_tests;
-#[cfg(test)]
 mod table_spec_tests;
 #[cfg(test)]
 mod write_msgs_tests;
