@@ -77,12 +77,13 @@ class Pipe:
 
 
 class Serve:
-    """`PROGRAM serve` with two workers, for one connection or for so many."""
+    """`PROGRAM serve` with two workers or so many, for one connection or for so many."""
 
-    def __init__(self, program, tables, connections=1):
+    def __init__(self, program, tables, connections=1, workers=2):
         with socket.create_server(("127.0.0.1", 0)) as free:
             self.address = "127.0.0.1:%d" % free.getsockname()[1]
-        words = [program, "serve", "--listen", self.address, "--workers", "2", "--connections", str(connections), *tables]
+        words = [program, "serve", "--listen", self.address, "--workers", str(workers),
+                 "--connections", str(connections), *tables]
         self.child = subprocess.Popen(words, stdout=subprocess.PIPE, cwd=TOP)
         self.lines = None
         self.wait_until_it_listens()

@@ -33,12 +33,6 @@ def test(title, *specs):
     return add
 
 
-def over_a_port(function):
-    """Of `serve` alone: `pipe` writes 65,536 bytes at most before it reads again, which may wait for the client."""
-    function.is_over_a_port = True
-    return function
-
-
 # ---- what is asked
 
 def fill(c, ids, name=None):
@@ -274,7 +268,6 @@ def order(c):
 
 
 @test("long rows")
-@over_a_port
 def long_rows(c):
     texts = ["x" * 600_000, "y" * 600_000, "z" * 3_000_000, "", "w"]
     for n, text in enumerate(texts):
@@ -286,7 +279,6 @@ def long_rows(c):
 
 
 @test("a read that is broken off")
-@over_a_port
 def broken_off(c):
     for n in range(8):
         fill(c, [n], "x" * 400_000)
