@@ -5,4 +5,3 @@ pub mod PipeLemmas
 pub mod SpecLemmas
 pub mod ServesLemmas
 pub mod RunLemmas
-pub mod DrillLemmas

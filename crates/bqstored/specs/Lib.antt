@@ -8,4 +8,3 @@ pub mod Serve
 pub mod Inner
 pub mod Fault
 pub mod Runs
-pub mod Drill
