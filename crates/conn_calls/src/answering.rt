@@ -4,19 +4,16 @@ ghost use Rattle.std.specs.Prelude.{◌≡◌, ◌<◌, ◌^◌, ◌≤ℤ◌, f
 ghost use Rattle.table_model.specs.declared.limits.TheConstants.{LATEST_READING};
 ghost use Rattle.open_tables.specs.Tables.{AreTheirs, specs_of};
 ghost use Rattle.open_tables.specs.Plans.{Gets, Loses};
-ghost use Rattle.conn_requests.specs.declared.asks.Ask.{Ask};
 ghost use Rattle.conn_requests.specs.declared.asks.Ask.TheVariants as ask;
 ghost use Rattle.conn_requests.specs.Names.{named_after, named_with};
 ghost use Rattle.call_plans.specs.Appending.{append_plan};
 ghost use Rattle.call_plans.specs.Laws.{ends};
 ghost use Rattle.call_plans.specs.Plans.{plan, call_plan};
-ghost use Rattle.grpc_meta.specs.declared.methods.Method.TheVariants as method;
-ghost use Rattle.call_read.specs.Items.{told};
-ghost use Rattle.conn_calls.specs.Answering.{AnswersBy, BodiesRead, told_by};
+ghost use Rattle.conn_calls.specs.Answering.{AnswersBy};
 
 use crate::service::Service;
 use append_calls::AppendCall;
-use call_read::{RowsAnswer, call, rows};
+use call_read::call;
 use conn_requests::{Answer, Ask, lost};
 use grpc_meta::Method;
 use open_tables::Passes;
@@ -82,90 +79,49 @@ fn answer_call<R: Wait>(
     )
 }
 
-// An answer that is given at once.
-fn at_once<'t>(answer: Result<Answer, Memory>) -> Result<RowsAnswer<'t>, Memory>
-    ensures told { told_by result ≡ answer }
-    ensures bodies { (ask : Ask) → BodiesRead ask result }
-{
-    Ok(RowsAnswer::End(answer?))
-}
-
-#[tactic(auto, using(crate::proofs::AskingLemmas::untouched))]
-fn answer_rows<'t, R: Wait>(
-    service: &Service<'t, R>,
-    passes: Passes,
-    message: &[u8],
-    now: i64,
-) -> (Passes, Result<RowsAnswer<'t>, Memory>)
-    requires theirs { AreTheirs service.now.tables.now passes }
-    requires in_time { now ≤ℤ LATEST_READING }
-    ensures theirs { AreTheirs service.now.tables.now result.0 }
-    ensures gets { IfOk result.1 (λ rows. Gets passes (call_plan (specs_of service.now.tables.now) method.ReadRows message.now) now (told rows) result.0) }
-    ensures loses { OnErr result.1 (Loses passes (call_plan (specs_of service.now.tables.now) method.ReadRows message.now) now result.0) }
-{
-    if LONGEST_MESSAGE < message.len() {
-        return (passes, Err(Memory));
-    }
-    rows(
-        service.tables,
-        service.rt,
-        service.alloc,
-        passes,
-        message,
-        now,
-    )
-}
-
 #[tactic(auto, unfolding(call_plans::specs::Plans::plan))]
-fn answer_planned<'t, R: Wait>(
-    service: &Service<'t, R>,
+fn answer_planned<R: Wait>(
+    service: &Service<'_, R>,
     passes: Passes,
     append: &mut AppendCall,
     ask: &Ask,
     now: i64,
-) -> (Passes, Result<RowsAnswer<'t>, Memory>)
+) -> (Passes, Result<Answer, Memory>)
     requires theirs { AreTheirs service.now.tables.now passes }
     requires in_time { now ≤ℤ LATEST_READING }
     ensures theirs { AreTheirs service.now.tables.now result.0 }
     ensures named { IfOk result.1 (λ answer. append.new ≡ named_after append.old ask.now) }
-    ensures gets { IfOk result.1 (λ answer. Gets passes (plan (specs_of service.now.tables.now) (named_after append.old ask.now) ask.now) now (told answer) result.0) }
-    ensures bodies { BodiesRead ask.now result.1 }
+    ensures gets { IfOk result.1 (λ answer. Gets passes (plan (specs_of service.now.tables.now) (named_after append.old ask.now) ask.now) now answer result.0) }
     ensures loses { OnErr result.1 (Loses passes (plan (specs_of service.now.tables.now) (named_after append.old ask.now) ask.now) now result.0) }
 {
     match ask {
-        Ask::Append(message) => {
-            let (passes, answer) = answer_append(service, passes, append, message.bytes(), now);
-            (passes, at_once(answer))
-        }
-        Ask::Call(Method::ReadRows, message) => answer_rows(service, passes, message.bytes(), now),
+        Ask::Append(message) => answer_append(service, passes, append, message.bytes(), now),
         Ask::Call(method, message) => {
-            let (passes, answer) = answer_call(service, passes, *method, message.bytes(), now);
-            (passes, at_once(answer))
+            answer_call(service, passes, *method, message.bytes(), now)
         }
-        Ask::Ends(over) => (passes, at_once(over.answer(service.alloc))),
+        Ask::Ends(over) => (passes, over.answer(service.alloc)),
     }
 }
 
 /// Answers what is asked by its plan, or by the answer that stands for want of memory. `append` remembers what the messages
 /// of an AppendRows call have named. `now` is a reading of the clock, in microseconds since 1970-01-01.
-pub(crate) fn answer_ask<'t, R: Wait>(
-    service: &Service<'t, R>,
+pub(crate) fn answer_ask<R: Wait>(
+    service: &Service<'_, R>,
     passes: Passes,
     append: &mut AppendCall,
     ask: &Ask,
     now: i64,
-) -> (Passes, Result<RowsAnswer<'t>, Memory>)
+) -> (Passes, Result<Answer, Memory>)
     requires theirs { AreTheirs service.now.tables.now passes }
     requires in_time { now ≤ℤ LATEST_READING }
     ensures theirs { AreTheirs service.now.tables.now result.0 }
-    ensures named { IfOk result.1 (λ answer. ends (told answer) ≡ false → append.new ≡ named_after append.old ask.now) }
-    ensures bodies { BodiesRead ask.now result.1 }
-    ensures answers { IfOk result.1 (λ answer. AnswersBy (plan (specs_of service.now.tables.now) (named_after append.old ask.now) ask.now) passes now (told answer) result.0) }
+    ensures named { IfOk result.1 (λ answer. ends answer ≡ false → append.new ≡ named_after append.old ask.now) }
+    ensures answers { IfOk result.1 (λ answer. AnswersBy (plan (specs_of service.now.tables.now) (named_after append.old ask.now) ask.now) passes now answer result.0) }
     ensures loses { OnErr result.1 (Loses passes (plan (specs_of service.now.tables.now) (named_after append.old ask.now) ask.now) now result.0) }
 {
     let (passes, answer) = answer_planned(service, passes, append, ask, now);
     match answer {
         Ok(answer) => (passes, Ok(answer)),
-        Err(Memory) => (passes, at_once(lost(service.alloc))),
+        Err(Memory) => (passes, lost(service.alloc)),
     }
 }

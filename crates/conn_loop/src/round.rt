@@ -14,7 +14,6 @@ use conn_calls::Gated;
 use conn_service::Ending;
 use links::{Clock, Gate, Link};
 use open_tables::{Passes, Tables};
-use rows_body::Hand;
 use std::alloc::Global;
 use std::sync::Wait;
 
@@ -27,16 +26,15 @@ pub(crate) enum Rounded {
 }
 
 /// Writes what is due, once, unless all is written; then reads once, and answers what came.
-pub(crate) fn round<'t, R: Wait, L: Link, C: Clock, G: Gate>(
-    rt: &'t R,
+pub(crate) fn round<R: Wait, L: Link, C: Clock, G: Gate>(
+    rt: &R,
     alloc: Global,
-    hand: &Hand,
-    tables: &'t Tables,
+    tables: &Tables,
     passes: Passes,
     link: &mut L,
     clock: &mut C,
     gated: &mut Gated<'_, G>,
-    state: &mut State<'t>,
+    state: &mut State,
 ) -> (Passes, Rounded)
     requires theirs { AreTheirs tables.now passes }
     requires open { L.closed link.old ≡ false }
@@ -45,20 +43,14 @@ pub(crate) fn round<'t, R: Wait, L: Link, C: Clock, G: Gate>(
     ensures open { L.closed link.new ≡ false }
     ensures rounds { Rounds (plan (specs_of tables.now)) passes result.0 (shown L.log L.left L.ended L.faults link.old (C.readings clock.old)) (shown L.log L.left L.ended L.faults link.new (C.readings clock.new)) state.old state.new result.1 }
 {
-    match settle_once(rt, alloc, link, hand, state) {
+    match settle_once(rt, alloc, link, state) {
         Rounded::GoesOn => read_once(rt, alloc, tables, passes, link, clock, gated, state),
         Rounded::Ended(ending) => (passes, Rounded::Ended(ending)),
     }
 }
 
 // Writes what is due, unless all is written.
-fn settle_once<R: Wait, L: Link>(
-    rt: &R,
-    alloc: Global,
-    link: &mut L,
-    hand: &Hand,
-    state: &mut State<'_>,
-) -> Rounded
+fn settle_once<R: Wait, L: Link>(rt: &R, alloc: Global, link: &mut L, state: &mut State) -> Rounded
     requires open { L.closed link.old ≡ false }
     ensures open { L.closed link.new ≡ false }
     ensures reader { state.new.reader ≡ state.old.reader }
@@ -67,7 +59,7 @@ fn settle_once<R: Wait, L: Link>(
     if state.is_quiet {
         return Rounded::GoesOn;
     }
-    match settle(rt, alloc, link, hand, &mut state.conn, &mut state.output) {
+    match settle(rt, alloc, link, &mut state.conn, &mut state.output) {
         Settled::Quiet => {
             state.is_quiet = true;
             Rounded::GoesOn

@@ -12,7 +12,6 @@ use conn_calls::Gated;
 use conn_service::Ending;
 use links::{Clock, Gate, Link};
 use open_tables::{Passes, Tables};
-use rows_body::Hand;
 use std::alloc::Global;
 use std::sync::Wait;
 
@@ -20,10 +19,10 @@ use std::sync::Wait;
 ///
 /// It reads the client's frames one by one, answers what they ask over the tables, and writes what is due. `gate` is
 /// passed at each request of the connection, whose number for it is `connection`.
-pub fn serve_connection<'t, R: Wait, L: Link, C: Clock, G: Gate>(
-    rt: &'t R,
+pub fn serve_connection<R: Wait, L: Link, C: Clock, G: Gate>(
+    rt: &R,
     alloc: Global,
-    tables: &'t Tables,
+    tables: &Tables,
     mut passes: Passes,
     link: &mut L,
     clock: &mut C,
@@ -39,13 +38,10 @@ pub fn serve_connection<'t, R: Wait, L: Link, C: Clock, G: Gate>(
     let Ok(mut state) = State::new(alloc) else {
         return (passes, Ending::Memory);
     };
-    let Ok(hand) = Hand::new(alloc) else {
-        return (passes, Ending::Memory);
-    };
     let mut gated = Gated::new(gate, connection);
     for _ in rt.forever() {
         let (after, rounded) = round(
-            rt, alloc, &hand, tables, passes, link, clock, &mut gated, &mut state,
+            rt, alloc, tables, passes, link, clock, &mut gated, &mut state,
         );
         match rounded {
             Rounded::GoesOn => passes = after,

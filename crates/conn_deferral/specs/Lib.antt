@@ -1,3 +1,0 @@
-pub mod Deferred
-pub mod Resting
-pub mod Laws
