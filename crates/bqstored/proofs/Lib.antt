@@ -5,3 +5,4 @@ pub mod PipeLemmas
 pub mod SpecLemmas
 pub mod ServesLemmas
 pub mod RunLemmas
+pub mod DrillLemmas

@@ -18,6 +18,7 @@ use Rattle.command_line.proofs.LineLemmas.{one_line}
 use Rattle.conn_service.specs.declared.ending.Ending.TheVariants as ending
 use Rattle.server.specs.declared.faults.ServeFault.TheVariants as serves
 use Rattle.server.specs.Visits.{LinkShows}
+use Rattle.bqstored.specs.declared.drills.DrillFault.TheVariants as drills
 use Rattle.bqstored.specs.Outside.{Objects, StandardStreams, Shows}
 use Rattle.bqstored.specs.Runs.{RunsNone, Runs, status_without}
 use Rattle.bqstored.specs.Body.{BodyRan, RanOver, is_readable, AnswersFromTable}
@@ -71,7 +72,8 @@ unrun shown clones (line.Pipe specs) objects shows status is =
     record { end = ending.Memory; status_is = is; ran = nothing_piped specs shows.pipe; closed = inl is; door = refl; input = refl; out = refl }
 unrun shown clones (line.Serve listen workers connections specs) objects shows status is =
     record { end = Err serves.Memory; status_is = is; served = tt; cause = (refl, refl); partly = refl; pipe = refl; input = refl }
-unrun shown clones (line.Drill n) objects shows status is = (inr is, refl)
+unrun shown clones (line.Drill n) objects shows status is =
+    record { end = Err drills.Memory; status_is = is; drills = (refl, refl); door = refl; pipe = refl; clock = refl; input = refl }
 
 -- words that gave no line
 pub runs_none : {D P C I O : Type 0} (fault : LineFault) (objects : Objects D P C I O) (status : ℕ) → status ≡ status_without fault → RunsNone objects objects status

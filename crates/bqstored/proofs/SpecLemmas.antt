@@ -1,5 +1,6 @@
 -- The tables of a command line are some that a server can have.
-use Rattle.std.proofs.Common.{◌≡◌, ℕ, zero, suc, ◌<◌, Bool, true, false, not, ◌&&◌, ◌||◌, List, [], ◌∷◌, map, length, IsTrue, Some, None, refl, sym, ap, subst, arith}
+use Rattle.std.proofs.Common.{◌≡◌, ℕ, zero, suc, ◌<◌, ◌≤◌, Bool, true, false, not, ◌&&◌, ◌||◌, List, [], ◌∷◌, map, length, IsTrue, Some, None, refl, sym, ap, subst, arith}
+use Rattle.std.proofs.lemmas.Bool.Decides.{nat_tests}
 use Rattle.std.specs.Prelude.{nat_le, if◌then◌else◌}
 use Rattle.std.specs.Str.Parse.{digits_value}
 use Rattle.std.specs.List.{IsDistinct, AllByRecursion}
@@ -73,8 +74,20 @@ by_tests false least most v n tested is = absurd cc
 from_one : (most : ℕ) (text : List ℕ) (n : ℕ) → number_of 1 most text ≡ Some n → 0 < n
 from_one most text n is = by_tests (is_decimal text) (nat_le 1 (digits_value 10 text)) (nat_le (digits_value 10 text) most) (digits_value 10 text) n refl is
 
+up_to : (v most : ℕ) → true ≡ nat_le v most → v ≤ most
+up_to v most is = grind (arith, nat_tests)
+
+by_limit : (decimal least most : Bool) (v limit n : ℕ) → most ≡ nat_le v limit → (if decimal && (least && most) then Some v else None) ≡ Some n → n ≤ limit
+by_limit true true true v limit n tested is = let same : v ≡ n = cc in subst (λ m. m ≤ limit) same (up_to v limit tested)
+by_limit true true false v limit n tested is = absurd cc
+by_limit true false most v limit n tested is = absurd cc
+by_limit false least most v limit n tested is = absurd cc
+
+at_most : (most : ℕ) (text : List ℕ) (n : ℕ) → number_of 1 most text ≡ Some n → n ≤ most
+at_most most text n is = by_limit (is_decimal text) (nat_le 1 (digits_value 10 text)) (nat_le (digits_value 10 text) most) (digits_value 10 text) most n refl is
+
 pub has_tables : (words : List (List ℕ)) (l : CommandLine) → IsLine words l → HasTables l
 has_tables words (line.Body table) is = tt
 has_tables words (line.Pipe tables) is = are_open _ tables is.2.2.1
 has_tables words (line.Serve listen workers connections tables) is = let number = is.2.2.1.1 in (from_one 32 number.0 workers number.2, are_open _ tables is.2.2.1.3)
-has_tables words (line.Drill n) is = tt
+has_tables words (line.Drill n) is = let number = is.2.2.1 in (from_one 10000 number.0 n number.2, at_most 10000 number.0 n number.2)

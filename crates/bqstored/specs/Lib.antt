@@ -8,3 +8,4 @@ pub mod Serve
 pub mod Inner
 pub mod Fault
 pub mod Runs
+pub mod Drill

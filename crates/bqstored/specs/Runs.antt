@@ -1,5 +1,5 @@
 -- A run of the program: its status, and what it did outside.
-use Rattle.std.specs.Prelude.{◌≡◌, ℕ, ◌<◌, ℤ, true, List, Option, Result, OnOk}
+use Rattle.std.specs.Prelude.{◌≡◌, ℕ, ◌<◌, ◌≤◌, ℤ, true, List, Option, Result, OnOk}
 use Rattle.std.proofs.Common.{◌⊎◌}
 use Rattle.call_body.specs.declared.ends.BodyEnd.{BodyEnd}
 use Rattle.table_spec.specs.declared.spec.TableSpec.{TableSpec}
@@ -16,8 +16,10 @@ use Rattle.server.specs.Visits.{LinkShows}
 use Rattle.server.specs.Serving.{ServeCause}
 use Rattle.bqstored.specs.Pipe.{Pipes, status_of_ending}
 use Rattle.bqstored.specs.Serve.{ServesNew, WritesNewPartly, status_of_serve}
+use Rattle.bqstored.specs.declared.drills.DrillFault.{DrillFault}
+use Rattle.bqstored.specs.Drill.{Drills, status_of_drill}
 
--- The words are no line of a command that runs: nothing outside is touched, and the status says so, unless memory was
+-- The words are no line of a command: nothing outside is touched, and the status says so, unless memory was
 -- wanting.
 abbrev pub RunsNone : {D P C I O : Type 0} → (old new : Objects D P C I O) → (status : ℕ) → Type 0
 RunsNone old new status = ((status ≡ 2) ⊎ (status ≡ 4)) × (new ≡ old)
@@ -56,18 +58,29 @@ pub record RunsServe {L : Type 0} (shows : L → LinkShows) (clones : Option (Li
   pub pipe : new.pipe ≡ old.pipe
   pub input : new.input ≡ old.input
 
--- What the line of each command does. That of `drill` doesn't run yet.
+-- `drill`: the status is that of its end, and nothing but the output is touched.
+pub record RunsDrill {L D P C I O : Type 0} (old new : Objects D P C I O) (before after : Shows L) (status : ℕ) : Type 0 where
+  pub end : Result (Unit {0}) DrillFault
+  pub status_is : status ≡ status_of_drill end
+  pub drills : Drills before.streams.taken after.streams.taken before.streams.sink_faults after.streams.sink_faults end
+  pub door : new.door ≡ old.door
+  pub pipe : new.pipe ≡ old.pipe
+  pub clock : new.clock ≡ old.clock
+  pub input : new.input ≡ old.input
+
+-- What the line of each command does.
 abbrev pub Runs : {L D P C I O : Type 0} → (shows : L → LinkShows) → (clones : Option (List ℤ) → Type 0) → CommandLine → (old new : Objects D P C I O) → (before after : Shows L) → (status : ℕ) → Type 0
 Runs shows clones (line.Body table) old new before after status = RunsBody table old new before after status
 Runs shows clones (line.Pipe specs) old new before after status = RunsPipe specs old new before after status
 Runs shows clones (line.Serve listen workers connections specs) old new before after status = RunsServe shows clones workers connections specs old new before after status
-Runs shows clones (line.Drill n) old new before after status = RunsNone old new status
+Runs shows clones (line.Drill n) old new before after status = RunsDrill old new before after status
 
--- the tables of `pipe` and `serve` are some that a server can have, and `serve` has a worker
+-- the tables of `pipe` and `serve` are some that a server can have, `serve` has a worker, and n of `drill` is 1 to 10,000
 abbrev pub HasTables : CommandLine → Type 0
 HasTables (line.Pipe specs) = AreTables specs
 HasTables (line.Serve listen workers connections specs) = (0 < workers) × AreTables specs
-HasTables _ = Unit {0}
+HasTables (line.Drill n) = (0 < n) × (n ≤ 10000)
+HasTables (line.Body table) = Unit {0}
 
 -- the status where the words gave no line
 abbrev pub status_without : LineFault → ℕ

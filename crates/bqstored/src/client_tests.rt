@@ -14,11 +14,11 @@ use std::test::Fail;
 use std::thread::Threads;
 
 /// The default stream, a descriptor with the field `id`, number 1, INT64, and the row with id 1.
-const FIRST: &[u8] =
+pub(crate) const FIRST: &[u8] =
     b"\x0a\x2fprojects/p/datasets/d/tables/t/streams/_default\x22\x19\x0a\x11\x0a\x0f\x0a\x01R\x12\x0a\x0a\x02id\x18\x01\x20\x02\x28\x03\x12\x04\x0a\x02\x08\x01";
 
 /// The row with id 2.
-const SECOND: &[u8] = b"\x22\x06\x12\x04\x0a\x02\x08\x02";
+pub(crate) const SECOND: &[u8] = b"\x22\x06\x12\x04\x0a\x02\x08\x02";
 
 /// A row without a field.
 const THIRD: &[u8] = b"\x22\x04\x12\x02\x0a\x00";

@@ -6,6 +6,7 @@ ghost use Rattle.command_line.specs.Line.{IsLine};
 ghost use Rattle.bqstored.specs.Runs.{HasTables, Runs, RunsNone, status_without};
 
 use crate::bodies::{body, status};
+use crate::drills::{self, drill};
 use crate::pipes::{self, pipe as serve_pipe};
 use crate::serves::{self, serve};
 use command_line::{CommandLine, LineFault, command_of};
@@ -16,7 +17,7 @@ use std::alloc::Global;
 use std::sync::Wait;
 use std::thread::Threads;
 
-/// The status where the words are no command line of a command that runs.
+/// The status where the words are no command line.
 pub const USAGE: u8 = 2;
 
 /// The status of want of memory.
@@ -32,7 +33,7 @@ fn status_without(fault: LineFault) -> u8
     }
 }
 
-/// Runs the command of a line. A command that doesn't run yet has status 2, and nothing is read or written.
+/// Runs the command of a line.
 fn run_line<
     R: Threads + Wait + Sync,
     P: Link,
@@ -103,7 +104,7 @@ fn run_line<
             );
             serves::status(end)
         }
-        CommandLine::Drill { .. } => USAGE,
+        CommandLine::Drill { n } => drills::status(drill(rt, alloc, n, out)),
     }
 }
 
@@ -112,8 +113,8 @@ fn run_line<
 /// `body`, with or without a table, reads a body from `input` and writes the replies to `out`. `pipe` serves one
 /// connection over the link `pipe`, with readings of `clock`, and closes the link. `serve` serves the connections that
 /// `door` gives, several at once on threads of their own, closes each and hands it back, and writes the report on the
-/// tables to `out`. Where the words are no command line the status is 2, and nothing is read or written. Until it stands, this is so of the command
-/// line of `drill` too.
+/// tables to `out`. `drill` runs the drill and writes its text to `out`. Where the words are no command line the status is
+/// 2, and nothing is read or written.
 pub fn run<
     R: Threads + Wait + Sync,
     P: Link,

@@ -75,7 +75,7 @@ fn client(alloc: Global, calls: &[u8]) -> Result<MemLink, Fail>
 }
 
 /// The status of `serve` over a door with these links, the door behind it, and what was written.
-fn answer<R: Threads + Wait + Sync + AllocGlobal, G: Gate + Sync>(
+pub(crate) fn answer<R: Threads + Wait + Sync + AllocGlobal, G: Gate + Sync>(
     rt: &R,
     connections: &str,
     links: Vec<MemLink>,
@@ -182,7 +182,7 @@ fn expect_at_once<R: Abort + Threads + Wait + Sync + AllocGlobal>(
 }
 
 /// How often this stands in those bytes.
-fn times(bytes: &[u8], part: &[u8]) -> u32 {
+pub(crate) fn times(bytes: &[u8], part: &[u8]) -> u32 {
     let mut found = 0u32;
     for start in 0..bytes.len() {
         let behind = &bytes[start..];

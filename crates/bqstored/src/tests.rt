@@ -201,7 +201,7 @@ fn a_fault_has_its_status(rt: HostRuntime) -> Result<(), Fail> {
 fn other_words_do_nothing(rt: HostRuntime) -> Result<(), Fail> {
     let mut source = MemSource::new(rt.alloc(), FIRST.to_vec(rt.alloc())?, Vec::new(rt.alloc()));
     let mut sink = MemSink::new(rt.alloc(), Vec::new(rt.alloc()));
-    for line in [["pipe", "--table"], ["drill", "02"], ["drill", "2"]] {
+    for line in [["pipe", "--table"], ["drill", "02"], ["drill", "0"]] {
         let mut words = Vec::new(rt.alloc());
         for word in line {
             words.push(String::from_str(rt.alloc(), word)?)?;

@@ -1,0 +1,19 @@
+pub mod RowLemmas
+pub mod SendLemmas
+pub mod TakenLemmas
+pub mod ReadLemmas
+pub mod CutLemmas
+pub mod SessionLemmas
+pub mod PartLemmas
+pub mod WentLemmas
+pub mod LookLemmas
+pub mod SplitLemmas
+pub mod EndLemmas
+pub mod LastLemmas
+pub mod BeginLemmas
+pub mod StepLemmas
+pub mod AskLemmas
+mod Rows
+pub mod RootLemmas
+pub mod TextLemmas
+pub mod CrewLemmas

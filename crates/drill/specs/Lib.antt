@@ -1,0 +1,10 @@
+pub mod Moves
+pub mod Drains
+pub mod Rows
+pub mod Table
+pub mod Summary
+pub mod Begins
+pub mod Roots
+pub mod Reads
+pub mod Parts
+pub mod Steps
