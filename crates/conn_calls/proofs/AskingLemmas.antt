@@ -18,7 +18,7 @@ use Rattle.h2_record.specs.Record.{AnswerPart, Record, Given}
 use Rattle.h2_record.specs.Faults.{first_fault_of}
 use Rattle.h2_record.specs.Texts.{given_text}
 use Rattle.h2_record.specs.Written.{EachWasDue, IsFront}
-use Rattle.h2_conn.specs.Held.{Held}
+use Rattle.conn_deferral.specs.Deferred.{Dealing}
 use Rattle.table_spec.specs.declared.spec.TableSpec.{TableSpec}
 use Rattle.open_tables.specs.Tables.{TableView}
 use Rattle.open_tables.specs.Plans.{Plan, Fixed, At, Gets, Loses}
@@ -38,6 +38,8 @@ use Rattle.conn_requests.proofs.SpelledLemmas.{given_text-with_answer}
 use Rattle.call_plans.specs.Laws.{Answers, ends}
 use Rattle.call_plans.specs.Plans.{plan as plan_in}
 use Rattle.call_plans.proofs.PlanLemmas.{plan-sound}
+use Rattle.call_read.specs.declared.bodies.RowsAnswer.{RowsAnswer}
+use Rattle.call_read.specs.Items.{told}
 use Rattle.conn_service.specs.Served.{Planning, Served, AnswersOne}
 use Rattle.conn_service.specs.Serves.{reading_of, IsInTime}
 use Rattle.conn_service.specs.Ends.{StopsAtFault}
@@ -46,8 +48,9 @@ use Rattle.conn_service.specs.Steps.{HeededInPart}
 use Rattle.conn_service.proofs.GoingLemmas.{sound-stops}
 use Rattle.conn_calls.specs.declared.asked.Asked.{Asked}
 use Rattle.conn_calls.specs.declared.asked.Asked.TheVariants as asked
-use Rattle.conn_calls.specs.Giving.{IsSound, Gives}
-use Rattle.conn_calls.specs.Answering.{AnswersBy, answered_by, is_last, OneAnswer, AsksOne, GivesOne, Start, Deciding, Answering, rest, over}
+use Rattle.conn_calls.specs.Dealing.{IsDealt, Decides}
+use Rattle.conn_calls.proofs.DealingLemmas.{fault-parts, due-parts, left-more}
+use Rattle.conn_calls.specs.Answering.{AnswersBy, answered_by, is_last, OneAnswer, AsksOne, GivesOne, told_by, Start, Deciding, Answering, rest, over}
 
 -- ---- one answer
 
@@ -56,9 +59,22 @@ pub untouched : {A : Type 0} (passes : List TableView) (plan : Plan A) (now : �
 untouched passes (Fixed due) now = refl
 untouched passes (At place turn) now = inl refl
 
-pub lost-answers : (plan : Plan Answer) (passes after : List TableView) (now : ℤ) (result : Result Answer Memory) → IfOk result (λ a. a ≡ lost_answer) → Loses passes plan now after → IfOk result (λ a. AnswersBy plan passes now a after)
-lost-answers plan passes after now (Ok a) is loses = inr (is, loses)
-lost-answers plan passes after now (Err memory) is loses = is
+-- what is told by what a call gave
+pub told-so : (rows : Result RowsAnswer Memory) (P : Answer → Type 0) → IfOk rows (λ x. P (told x)) → IfOk (told_by rows) P
+told-so (Ok rows) P so = so
+told-so (Err memory) P so = so
+
+pub told-lost : (rows : Result RowsAnswer Memory) (P : Type 0) → OnErr rows P → OnErr (told_by rows) P
+told-lost (Ok rows) P lost = lost
+told-lost (Err memory) P lost = lost
+
+-- where the call goes on, its answer doesn't end it
+pub goes-named : (became : Asked) (rows : Result RowsAnswer Memory) (P : Type 0) (id : ℕ) (wanted : Ask) (begun : Bool) (old new : Dealing) → GivesOne became (told_by rows) id wanted begun old new
+    → IfOk rows (λ x. ends (told x) ≡ false → P) → became ≡ asked.Goes → P
+goes-named asked.Goes (Ok rows) P id wanted begun old new gives named goes = named gives.0
+goes-named asked.Goes (Err memory) P id wanted begun old new gives named goes = absurd gives
+goes-named asked.Over rows P id wanted begun old new gives named goes = absurd cc
+goes-named asked.Memory rows P id wanted begun old new gives named goes = absurd cc
 
 pub or-false : (b : Bool) → (b || false) ≡ b
 or-false true = refl
@@ -84,10 +100,10 @@ ends-as-asked specs named wanted passes now given after (inl gets) =
 ends-as-asked specs named wanted passes now given after (inr lost) =
     subst (λ a. is_last wanted a ≡ ends a) (sym lost.0) (or-true (ends_call wanted))
 
-pub one-answer : (specs : List TableSpec) (item : Item) (begun : Bool) (passes after : List TableView) (readings0 readings : Option (List ℤ)) (old new : Held) (now : ℤ) (result : Result Answer Memory) (became : Asked)
+pub one-answer : (specs : List TableSpec) (item : Item) (begun : Bool) (passes after : List TableView) (readings0 readings : Option (List ℤ)) (old new : Dealing) (now : ℤ) (result : Result Answer Memory) (became : Asked)
     → IfOk result (λ a. AnswersBy (plan_in specs item.named item.asked) passes now a after)
     → OnErr result (Loses passes (plan_in specs item.named item.asked) now after)
-    → GoesOn readings0 (now ∷ []) readings → pos 0 ≤ℤ now → now ≤ℤ LATEST_READING → GivesOne became result item.stream begun old new
+    → GoesOn readings0 (now ∷ []) readings → pos 0 ≤ℤ now → now ≤ℤ LATEST_READING → GivesOne became result item.stream item.asked begun old new
     → AsksOne became (plan_in specs) item begun passes after readings0 readings old new
 one-answer specs item begun passes after readings0 readings old new now (Ok given) asked.Goes answers loses timed least greatest gives = (
   record { answer = given; now = now; answers = answers; timed = timed; in_time = (least, greatest) },
@@ -107,14 +123,6 @@ one-answer specs item begun passes after readings0 readings old new now (Err mem
     record { answer = lost_answer; now = now; answers = inr (refl, loses); timed = timed; in_time = (least, greatest) }
 
 -- ---- one answer more
-
-pub fault-parts : (r : Record) (id : ℕ) (parts : List AnswerPart) → first_fault_of (with_parts r id parts) ≡ first_fault_of r
-fault-parts r id [] = refl
-fault-parts r id (part ∷ parts) = fault-parts (Given id part ∷ r) id parts
-
-pub due-parts : (r : Record) (id : ℕ) (parts : List AnswerPart) → EachWasDue r → EachWasDue (with_parts r id parts)
-due-parts r id [] due = due
-due-parts r id (part ∷ parts) due = due-parts (Given id part ∷ r) id parts due
 
 pub served-more : (plan : Planning) (passes between after : List TableView) (xs : List Answered) (x : Answered) → Served plan passes xs between → AnswersOne plan between x after → Served plan passes (xs ++ x ∷ []) after
 served-more plan passes between after [] x served one = (after, subst (λ p. AnswersOne plan p x after) served one, refl)
@@ -166,18 +174,19 @@ module _ (plan : Planning) (s : Start) (id : ℕ) (passes after : List TableView
       was_due = due-parts d.behind.marked id (parts_of (has_answer d.behind.used id) a.answer) d.was_due;
     }
 
-    answering-more : (old new : Held) (begun : Bool) → Answering plan s id passes readings0 old begun (rest id named body (wanted ∷ asks)) → ((q : Played) → branch a.answer q ≡ leaves q) → Gives old new id (parts_of begun a.answer) → Answering plan s id after readings new true leaves
+    answering-more : (old new : Dealing) (begun : Bool) → Answering plan s id passes readings0 old begun (rest id named body (wanted ∷ asks)) → ((q : Played) → branch a.answer q ≡ leaves q) → Decides old new id wanted (parts_of begun a.answer) → Answering plan s id after readings new true leaves
     answering-more old new begun w goes gives = record {
       deciding = deciding-more w.deciding goes;
-      stands = subst (λ b. IsSound new (with_parts w.deciding.behind.marked id (parts_of b a.answer))) (sym w.begun_is) (gives w.deciding.behind.marked w.stands);
+      stands = subst (λ b. IsDealt new (with_parts w.deciding.behind.marked id (parts_of b a.answer))) (sym w.begun_is) (gives.dealt w.deciding.behind.marked w.stands);
+      left = left-more old.left new.left w.deciding.behind.used x gives.left w.left;
       begun_is = has-more w.deciding.behind.used x id ∙ ap (λ b. has_answer w.deciding.behind.used id || b) (eq-eqb id id refl) ∙ or-true (has_answer w.deciding.behind.used id);
     }
 
-  pub answering-goes : (a : OneAnswer plan (item_for id named wanted) passes after readings0 readings) (old new : Held) (begun : Bool) → Answering plan s id passes readings0 old begun (rest id named body (wanted ∷ asks)) → is_last wanted a.answer ≡ false → Gives old new id (parts_of begun a.answer) → Answering plan s id after readings new true (rest id (named_after named wanted) body asks)
+  pub answering-goes : (a : OneAnswer plan (item_for id named wanted) passes after readings0 readings) (old new : Dealing) (begun : Bool) → Answering plan s id passes readings0 old begun (rest id named body (wanted ∷ asks)) → is_last wanted a.answer ≡ false → Decides old new id wanted (parts_of begun a.answer) → Answering plan s id after readings new true (rest id (named_after named wanted) body asks)
   answering-goes a old new begun w goes gives =
       answering-more a (rest id (named_after named wanted) body asks) old new begun w (λ q. ap (λ b. if b then set_call q id None else decide q id (named_after named wanted) asks body) goes) gives
 
-  pub answering-over : (a : OneAnswer plan (item_for id named wanted) passes after readings0 readings) (old new : Held) (begun : Bool) → Answering plan s id passes readings0 old begun (rest id named body (wanted ∷ asks)) → is_last wanted a.answer ≡ true → Gives old new id (parts_of begun a.answer) → Answering plan s id after readings new true (over id)
+  pub answering-over : (a : OneAnswer plan (item_for id named wanted) passes after readings0 readings) (old new : Dealing) (begun : Bool) → Answering plan s id passes readings0 old begun (rest id named body (wanted ∷ asks)) → is_last wanted a.answer ≡ true → Decides old new id wanted (parts_of begun a.answer) → Answering plan s id after readings new true (over id)
   answering-over a old new begun w ended gives =
       answering-more a (over id) old new begun w (λ q. ap (λ b. if b then set_call q id None else decide q id (named_after named wanted) asks body) ended) gives
 
@@ -287,7 +296,7 @@ drop-next : (asks : List Ask) (i : ℕ) (wanted : Ask) → i < length asks → w
 drop-next asks i wanted within is =
     drop-cons asks i wanted within ∙ ap (λ y. y ∷ drop (suc i) asks) (sym is) ∙ ap (λ n. wanted ∷ drop n asks) (sym (add-one i))
 
-module _ (plan : Planning) (s : Start) (id : ℕ) (passes after : List TableView) (readings0 readings : Option (List ℤ)) (named : Named) (wanted : Ask) (asks : List Ask) (i : ℕ) (body : Option Body) (old new : Held) (begun told : Bool) (within : i < length asks) (is : wanted ≡ get_or asks i wanted) (same : told ≡ begun) (w : Answering plan s id passes readings0 old begun (rest id named body (drop i asks))) where
+module _ (plan : Planning) (s : Start) (id : ℕ) (passes after : List TableView) (readings0 readings : Option (List ℤ)) (named : Named) (wanted : Ask) (asks : List Ask) (i : ℕ) (body : Option Body) (old new : Dealing) (begun told : Bool) (within : i < length asks) (is : wanted ≡ get_or asks i wanted) (same : told ≡ begun) (w : Answering plan s id passes readings0 old begun (rest id named body (drop i asks))) where
   here : Answering plan s id passes readings0 old told (rest id named body (wanted ∷ drop (i + 1) asks))
   here =
       let w' : Answering plan s id passes readings0 old begun (rest id named body (wanted ∷ drop (i + 1) asks)) =

@@ -32,7 +32,7 @@ use Rattle.conn_calls.specs.Giving.{IsSound, Gives}
 
 -- ---- parts one behind the other
 
-with_parts-append : (r : Record) (id : ℕ) (xs ys : List AnswerPart) → with_parts r id (xs ++ ys) ≡ with_parts (with_parts r id xs) id ys
+pub with_parts-append : (r : Record) (id : ℕ) (xs ys : List AnswerPart) → with_parts r id (xs ++ ys) ≡ with_parts (with_parts r id xs) id ys
 with_parts-append r id [] ys = refl
 with_parts-append r id (x ∷ xs) ys = with_parts-append (Given id x ∷ r) id xs ys
 
@@ -123,7 +123,7 @@ pub part-given : (old new : Held) (id : ℕ) (part : AnswerPart) → ((r : Recor
 part-given old new id part may stands r s =
     record { stands = stands r s.stands; sound = s.sound; was_open = (may r s, s.was_open); was_due = s.was_due }
 
-short-fields : (fields : List Field) → length (block_spelling true fields) ≤ LONGEST_BLOCK → length (flat_map field_spelling fields) ≤ LONGEST_BLOCK
+pub short-fields : (fields : List Field) → length (block_spelling true fields) ≤ LONGEST_BLOCK → length (flat_map field_spelling fields) ≤ LONGEST_BLOCK
 short-fields fields short = omega (arith, short)
 
 pub head-given : (old new : Held) (id : ℕ) (fields : List Field) (end : Bool) → IsSome (find old.streams id) → waiting_on old.answers id ≡ nothing → length (block_spelling true fields) ≤ LONGEST_BLOCK → ((r : Record) → Stands old r → Stands new (Given id (Head fields end) ∷ r)) → Gives old new id (Head fields end ∷ [])

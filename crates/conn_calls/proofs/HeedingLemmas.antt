@@ -16,8 +16,7 @@ use Rattle.h2_record.specs.Record.{Record, In, Whole}
 use Rattle.h2_record.specs.Events.{events_of}
 use Rattle.h2_record.specs.Faults.{first_fault_of, fault_by}
 use Rattle.h2_record.specs.Texts.{given_text}
-use Rattle.h2_conn.specs.Held.{Held}
-use Rattle.h2_conn.specs.Stands.{Stands}
+use Rattle.conn_deferral.specs.Deferred.{Dealing, Deals}
 use Rattle.open_tables.specs.Tables.{TableView}
 use Rattle.conn_requests.specs.declared.asks.Ask.{Ask}
 use Rattle.conn_requests.specs.declared.asks.Ask.TheVariants as ask
@@ -36,7 +35,9 @@ use Rattle.conn_service.specs.Serves.{IsInTime}
 use Rattle.conn_service.specs.Going.{Kept, kept_of, resumed}
 use Rattle.conn_service.specs.Steps.{Heeded, HeededInPart}
 use Rattle.conn_calls.specs.declared.asked.Asked.TheVariants as asked
-use Rattle.conn_calls.specs.Giving.{IsSound, Marks, marked_by}
+use Rattle.conn_calls.specs.Giving.{marked_by}
+use Rattle.conn_calls.specs.Dealing.{IsDealt, MarksOn}
+use Rattle.conn_calls.proofs.DealingLemmas.{left-same}
 use Rattle.conn_calls.specs.Heard.{IsAt}
 use Rattle.conn_calls.specs.Answering.{AsksOne, Start, Answering, rest, over, bodies, bodies_on, requests, refuses, IsFresh, KeepsAll, KeepsOthers, Hearing}
 use Rattle.conn_calls.proofs.AskingLemmas.{Unanswered, decide-unanswered, body-unanswered, hear_all-unanswered, in-part, answering-over, lost-in-part}
@@ -59,7 +60,7 @@ taken-none other false kept before none taken = taken
 unlike : (id other : ℕ) → (id == other) ≡ false → (other == id) ≡ false
 unlike id other is = ne_eqb other id (λ same. eqb-false id other is (sym same))
 
-module _ (plan : Planning) (s : Start) (id : ℕ) (after : List TableView) (readings : Option (List ℤ)) (conn : Held) (begun : Bool) where
+module _ (plan : Planning) (s : Start) (id : ℕ) (after : List TableView) (readings : Option (List ℤ)) (conn : Dealing) (begun : Bool) where
   kept-by : (other : ℕ) (b : Bool) (call : Option Call) (used : List Answered) (calls : ℕ → Option Call) (kept : Option Kept)
       → has_answer used id ≡ begun → calls ≡ s.played.calls
       → ((o : ℕ) → (o == id) ≡ false → has_answer used o ≡ has_answer s.played.used o)
@@ -79,7 +80,8 @@ module _ (plan : Planning) (s : Start) (id : ℕ) (after : List TableView) (read
     behind = set_call w.deciding.behind id call;
     takes = w.deciding.takes;
     used = w.deciding.used;
-    stands = w.stands.stands;
+    deals = w.stands.deals;
+    left = w.left;
     calls = λ other. kept-by other (id == other) call w.deciding.behind.used w.deciding.behind.calls (kept other) w.begun_is w.deciding.calls w.deciding.others (eqb-true id other) (unlike id other) (keeps other);
     sound = w.deciding.sound;
     answered = w.deciding.answered;
@@ -120,13 +122,14 @@ module _ (plan : Planning) (s : Start) (id : ℕ) (after : List TableView) (read
       was_due = w.deciding.was_due;
     };
     stands = w.stands;
+    left = w.left;
     begun_is = w.begun_is;
   }
 
   -- ---- the mark of a whole request
 
-  pub answering-marked : (marked : Held) (decides : Played → Played) (named : Named) (asks : List Ask) (body : Option Body) → Answering plan s id after readings conn begun decides
-      → ((q : Played) → decides q ≡ decide_all q id named asks body) → Marks conn marked asks → Answering plan s id after readings marked begun (rest id named body asks)
+  pub answering-marked : (marked : Dealing) (decides : Played → Played) (named : Named) (asks : List Ask) (body : Option Body) → Answering plan s id after readings conn begun decides
+      → ((q : Played) → decides q ≡ decide_all q id named asks body) → MarksOn conn marked asks → Answering plan s id after readings marked begun (rest id named body asks)
   answering-marked marked decides named [] body w same marks = record {
     deciding = record {
       answers = w.deciding.answers;
@@ -143,7 +146,8 @@ module _ (plan : Planning) (s : Start) (id : ℕ) (after : List TableView) (read
       sound = w.deciding.sound;
       was_due = w.deciding.was_due;
     };
-    stands = marks w.deciding.behind.marked w.stands;
+    stands = marks.dealt w.deciding.behind.marked w.stands;
+    left = left-same conn.left marked.left w.deciding.behind.used marks.left w.left;
     begun_is = w.begun_is;
   }
   answering-marked marked decides named (wanted ∷ asks) body w same marks = record {
@@ -162,7 +166,8 @@ module _ (plan : Planning) (s : Start) (id : ℕ) (after : List TableView) (read
       sound = w.deciding.sound;
       was_due = w.deciding.was_due;
     };
-    stands = marks w.deciding.behind.marked w.stands;
+    stands = marks.dealt w.deciding.behind.marked w.stands;
+    left = left-same conn.left marked.left w.deciding.behind.used marks.left w.left;
     begun_is = w.begun_is;
   }
 
@@ -173,9 +178,9 @@ module _ (plan : Planning) (s : Start) (id : ℕ) (after : List TableView) (read
   body-same true q named body next bytes goes = decide_all-ended q id named body bytes (Some (body_after body bytes)) (Some next)
   body-same false q named body next bytes goes = ap (λ b. decide_all q id named (asks_of body bytes false) (Some b)) (sym (goes refl))
 
-  pub body-asked : (marked : Held) (named : Named) (body next : Body) (bytes : List ℕ) (ended : Bool) (asks : List Ask)
+  pub body-asked : (marked : Dealing) (named : Named) (body next : Body) (bytes : List ℕ) (ended : Bool) (asks : List Ask)
       → Answering plan s id after readings conn begun (bodies id bytes ended (record { body = body; named = named }))
-      → asks ≡ asks_of body bytes ended → (ended ≡ false → next ≡ body_after body bytes) → Marks conn marked asks
+      → asks ≡ asks_of body bytes ended → (ended ≡ false → next ≡ body_after body bytes) → MarksOn conn marked asks
       → Answering plan s id after readings marked begun (rest id named (Some next) asks)
   body-asked marked named body next bytes ended asks w asks_are next_is marks =
       answering-marked marked (bodies id bytes ended (record { body = body; named = named })) named asks (Some next) w
@@ -229,7 +234,7 @@ pub kept-none : (used : List Answered) (id : ℕ) (call : Option Call) → None 
 kept-none used id None is = refl
 kept-none used id (Some c) is = absurd cc
 
-module _ (plan : Planning) (s : Start) (id : ℕ) (after : List TableView) (readings : Option (List ℤ)) (conn : Held) where
+module _ (plan : Planning) (s : Start) (id : ℕ) (after : List TableView) (readings : Option (List ℤ)) (conn : Dealing) where
   pub body-goes : (kept : Kept) (bytes : List ℕ) (ended : Bool) → Some kept ≡ kept_of s.played.used id (s.played.calls id)
       → Answering plan s id after readings conn (has_answer s.played.used id) (bodies_on id bytes ended)
       → Answering plan s id after readings conn kept.begun (bodies id bytes ended kept.call)
@@ -257,7 +262,8 @@ module _ (plan : Planning) (s : Start) (id : ℕ) (after : List TableView) (read
     behind = w.deciding.behind;
     takes = w.deciding.takes;
     used = w.deciding.used;
-    stands = w.stands.stands;
+    deals = w.stands.deals;
+    left = w.left;
     calls = λ other. same-kept other (id == other) w.deciding.behind.used w.deciding.behind.calls (kept other) w.begun_is w.deciding.calls w.deciding.others (eqb-true id other) (unlike id other) (keeps other);
     sound = w.deciding.sound;
     answered = w.deciding.answered;
@@ -281,13 +287,13 @@ module _ (plan : Planning) (s : Start) (id : ℕ) (after : List TableView) (read
 
   -- ---- a request that is refused
 
-  refuse-asked : (before mid : Held) (readings0 : Option (List ℤ)) (passes : List TableView) (named : Named) (reason : Over) → Answering plan s id passes readings0 before false (refuses id (ask.Ends reason ∷ [])) → Marks before mid (ask.Ends reason ∷ []) → named ≡ nothing_named
+  refuse-asked : (before mid : Dealing) (readings0 : Option (List ℤ)) (passes : List TableView) (named : Named) (reason : Over) → Answering plan s id passes readings0 before false (refuses id (ask.Ends reason ∷ [])) → MarksOn before mid (ask.Ends reason ∷ []) → named ≡ nothing_named
       → Answering plan s id passes readings0 mid false (rest id named None (ask.Ends reason ∷ []))
   refuse-asked before mid readings0 passes named reason w marks none =
       answering-marked plan s id passes readings0 before false mid (refuses id (ask.Ends reason ∷ [])) named (ask.Ends reason ∷ []) None w
       (λ q. ap (λ n. decide_all q id n (ask.Ends reason ∷ []) None) (sym none)) marks
 
-  module _ (before mid : Held) (readings0 : Option (List ℤ)) (passes : List TableView) (named : Named) (reason : Over) (w : Answering plan s id passes readings0 before false (refuses id (ask.Ends reason ∷ []))) (marks : Marks before mid (ask.Ends reason ∷ [])) (none : named ≡ nothing_named) where
+  module _ (before mid : Dealing) (readings0 : Option (List ℤ)) (passes : List TableView) (named : Named) (reason : Over) (w : Answering plan s id passes readings0 before false (refuses id (ask.Ends reason ∷ []))) (marks : MarksOn before mid (ask.Ends reason ∷ [])) (none : named ≡ nothing_named) where
     pub refused-over : (kept : ℕ → Option Kept) → KeepsOthers kept s id → AsksOne asked.Over plan (item_for id named (ask.Ends reason)) false passes after readings0 readings mid conn → Heeded plan s.frame s.played s.passes after conn kept s.readings readings
     refused-over kept others one =
         heeded-over plan s id after readings conn true kept
@@ -301,11 +307,12 @@ module _ (plan : Planning) (s : Start) (id : ℕ) (after : List TableView) (read
 
 -- ---- the mark of a request
 
-pub marks-none : (conn : Held) (asks : List Ask) → asks ≡ [] → Marks conn conn asks
-marks-none conn asks is r sound = subst (λ l. IsSound conn (marked_by l r)) (sym is) sound
+pub marks-none : (conn : Dealing) (asks : List Ask) → asks ≡ [] → MarksOn conn conn asks
+marks-none conn asks is = record { dealt = λ r d. subst (λ l. IsDealt conn (marked_by l r)) (sym is) d; left = λ id. refl }
 
-pub marks-some : (old new : Held) (wanted : Ask) (asks : List Ask) → ((r : Record) → Stands old r → Stands new (Whole ∷ r)) → Marks old new (wanted ∷ asks)
-marks-some old new wanted asks stands r sound = record { stands = stands r sound.stands; sound = sound.sound; was_open = sound.was_open; was_due = sound.was_due }
+pub marks-some : (old new : Dealing) (asks : List Ask) → ((asked : Ask) (others : List Ask) → MarksOn old new (asked ∷ others)) → (asks ≡ [] → ⊥) → MarksOn old new asks
+marks-some old new [] marks some = absurd (some refl)
+marks-some old new (asked ∷ others) marks some = marks asked others
 
 -- ---- a frame comes
 
@@ -313,16 +320,16 @@ takes-first : (p : Played) (frame : Frame) (events : List Event) (later : List A
 unfolding take_frame
 takes-first p frame events later is = ap (fold hear (resumed (with_record p (In frame ∷ p.marked)) later)) (sym is)
 
-given-now : (p : Played) (conn : Held) (kept : ℕ → Option Kept) → IsAt p conn kept → (id : ℕ) → given_text p.marked id ≡ spelling_on id p.used
+given-now : (p : Played) (conn : Dealing) (kept : ℕ → Option Kept) → IsAt p conn kept → (id : ℕ) → given_text p.marked id ≡ spelling_on id p.used
 given-now p conn kept a =
     let P : Played → Type 0 = λ q. map item_of q.used ≡ q.decided → (id : ℕ) → given_text q.marked id ≡ spelling_on id q.used in
     subst P (a.plays []) (play-played (p.used ++ []) a.frames).spelled a.answered
 
-module _ (plan : Planning) (s : Start) (old conn : Held) (before : ℕ → Option Kept) (a : IsAt s.played old before) where
+module _ (plan : Planning) (s : Start) (old conn : Dealing) (before : ℕ → Option Kept) (a : IsAt s.played old before) where
   -- nothing is answered yet
-  pub first-answering : (events : List Event) → events ≡ events_of s.played.marked s.frame → Stands conn (In s.frame ∷ s.played.marked) → first_fault_of (In s.frame ∷ s.played.marked) ≡ None
+  pub first-answering : (events : List Event) → events ≡ events_of s.played.marked s.frame → Deals conn (In s.frame ∷ s.played.marked) → ((id : ℕ) → conn.left id ≡ old.left id) → first_fault_of (In s.frame ∷ s.played.marked) ≡ None
       → (id : ℕ) → Answering plan s id s.passes s.readings conn (has_answer s.played.used id) (λ q. fold hear q events)
-  first-answering events is stands sound id = record {
+  first-answering events is deals same sound id = record {
     deciding = record {
       answers = [];
       behind = with_record s.played (In s.frame ∷ s.played.marked);
@@ -338,7 +345,8 @@ module _ (plan : Planning) (s : Start) (old conn : Held) (before : ℕ → Optio
       sound = sound;
       was_due = a.was_due;
     };
-    stands = record { stands = stands; sound = sound; was_open = a.was_open; was_due = a.was_due };
+    stands = record { deals = deals; sound = sound; was_open = a.was_open; was_due = a.was_due };
+    left = left-same old.left conn.left s.played.used same a.left;
     begun_is = refl;
   }
 
@@ -370,14 +378,14 @@ module _ (plan : Planning) (s : Start) (old conn : Held) (before : ℕ → Optio
   fresh-by (event.Fault code rule) each = tt
 
   -- a frame tells this
-  pub first-hearing : (told : Event) → told ∷ [] ≡ events_of s.played.marked s.frame → Stands conn (In s.frame ∷ s.played.marked) → first_fault_of (In s.frame ∷ s.played.marked) ≡ None
+  pub first-hearing : (told : Event) → told ∷ [] ≡ events_of s.played.marked s.frame → Deals conn (In s.frame ∷ s.played.marked) → ((id : ℕ) → conn.left id ≡ old.left id) → first_fault_of (In s.frame ∷ s.played.marked) ≡ None
       → Hearing plan s s.passes s.readings conn before told
-  first-hearing told is stands sound =
+  first-hearing told is deals same sound =
       let each : EachRequest (Requests s.played.marked s.frame) (told ∷ []) =
       subst (EachRequest (Requests s.played.marked s.frame)) (sym is) (requests-in s.played.marked s.frame)
       in
       record {
-        answering = first-answering (told ∷ []) is stands sound;
+        answering = first-answering (told ∷ []) is deals same sound;
         kept_are = a.calls;
         fresh = fresh-by told (λ id request. nothing-before (s.played.used ++ []) a.frames (resumed s.played []) (a.plays []) a.answered s.frame id (each.0 id request));
       }

@@ -8,7 +8,7 @@ use Rattle.h2_record.specs.declared.event.Event.TheVariants as event
 use Rattle.h2_record.specs.Texts.{given_text}
 use Rattle.h2_record.specs.Faults.{first_fault_of}
 use Rattle.h2_record.specs.Written.{EachWasDue}
-use Rattle.h2_conn.specs.Held.{Held}
+use Rattle.conn_deferral.specs.Deferred.{Dealing}
 use Rattle.open_tables.specs.Tables.{TableView}
 use Rattle.open_tables.specs.Plans.{Plan, Gets, Loses}
 use Rattle.conn_requests.specs.declared.asks.Ask.{Ask}
@@ -21,15 +21,18 @@ use Rattle.conn_requests.specs.Decided.{Item, Answered, Played, ends_call, has_a
 use Rattle.conn_requests.specs.Names.{Named}
 use Rattle.conn_requests.specs.Spelled.{spelling_on}
 use Rattle.call_plans.specs.Laws.{ends}
+use Rattle.call_read.specs.declared.bodies.RowsAnswer.{RowsAnswer}
+use Rattle.call_read.specs.declared.bodies.RowsAnswer.TheVariants as rows_answer
+use Rattle.call_read.specs.Items.{told}
 use Rattle.outside.specs.declared.wants.Memory.{Memory}
 use Rattle.conn_service.specs.Served.{Planning, Served, AnswersOne}
-use Rattle.conn_service.specs.Quiet.{IsAnswered}
+use Rattle.conn_service.specs.Quiet.{IsAnswered, reads_rows}
 use Rattle.conn_service.specs.Serves.{reading_of, IsInTime}
-use Rattle.conn_service.specs.Going.{Kept, kept_of, resumed}
+use Rattle.conn_service.specs.Going.{Kept, kept_of, IsLeftOf, resumed}
 use Rattle.conn_service.specs.Steps.{HeededInPart}
 use Rattle.conn_calls.specs.declared.asked.Asked.{Asked}
 use Rattle.conn_calls.specs.declared.asked.Asked.TheVariants as asked
-use Rattle.conn_calls.specs.Giving.{IsSound, Gives}
+use Rattle.conn_calls.specs.Dealing.{IsDealt, Decides}
 
 -- ---- one thing
 
@@ -53,19 +56,29 @@ pub record OneAnswer (plan : Planning) (item : Item) (passes after : List TableV
   pub in_time : IsInTime (answered_by item answer now)
 
 -- It is given on its stream; or memory was wanting.
-abbrev pub AsksOne : Asked → Planning → Item → (begun : Bool) → (passes after : List TableView) (readings0 readings : Option (List ℤ)) (old new : Held) → Type 0
+abbrev pub AsksOne : Asked → Planning → Item → (begun : Bool) → (passes after : List TableView) (readings0 readings : Option (List ℤ)) (old new : Dealing) → Type 0
 AsksOne asked.Goes plan item begun passes after readings0 readings old new =
-    (a : OneAnswer plan item passes after readings0 readings) × (is_last item.asked a.answer ≡ false) × Gives old new item.stream (parts_of begun a.answer)
+    (a : OneAnswer plan item passes after readings0 readings) × (is_last item.asked a.answer ≡ false) × Decides old new item.stream item.asked (parts_of begun a.answer)
 AsksOne asked.Over plan item begun passes after readings0 readings old new =
-    (a : OneAnswer plan item passes after readings0 readings) × (is_last item.asked a.answer ≡ true) × Gives old new item.stream (parts_of begun a.answer)
+    (a : OneAnswer plan item passes after readings0 readings) × (is_last item.asked a.answer ≡ true) × Decides old new item.stream item.asked (parts_of begun a.answer)
 AsksOne asked.Memory plan item begun passes after readings0 readings old new = OneAnswer plan item passes after readings0 readings
 
+-- what is told by what a call gave
+abbrev pub told_by : Result RowsAnswer Memory → Result Answer Memory
+told_by (Ok rows) = Ok (told rows)
+told_by (Err memory) = Err memory
+
+-- a body is given for ReadRows alone
+abbrev pub BodiesRead : Ask → Result RowsAnswer Memory → Type 0
+BodiesRead asked (Ok (rows_answer.Body body)) = reads_rows asked ≡ true
+BodiesRead asked _ = Unit {0}
+
 -- An answer is given on a stream, or memory was wanting for it.
-abbrev pub GivesOne : Asked → Result Answer Memory → (stream : ℕ) → (begun : Bool) → (old new : Held) → Type 0
-GivesOne asked.Goes (Ok answer) id begun old new = (ends answer ≡ false) × Gives old new id (parts_of begun answer)
-GivesOne asked.Over (Ok answer) id begun old new = (ends answer ≡ true) × Gives old new id (parts_of begun answer)
-GivesOne asked.Memory answer id begun old new = Unit {0}
-GivesOne _ (Err memory) id begun old new = ⊥
+abbrev pub GivesOne : Asked → Result Answer Memory → (stream : ℕ) → Ask → (begun : Bool) → (old new : Dealing) → Type 0
+GivesOne asked.Goes (Ok answer) id asked begun old new = (ends answer ≡ false) × Decides old new id asked (parts_of begun answer)
+GivesOne asked.Over (Ok answer) id asked begun old new = (ends answer ≡ true) × Decides old new id asked (parts_of begun answer)
+GivesOne asked.Memory answer id asked begun old new = Unit {0}
+GivesOne _ (Err memory) id asked begun old new = ⊥
 
 -- ---- all that a frame decides
 
@@ -93,9 +106,10 @@ pub record Deciding (plan : Planning) (s : Start) (id : ℕ) (after : List Table
   pub was_due : EachWasDue behind.marked
 
 -- the same, and the connection stands for it; `begun` says whether something was answered on the stream
-pub record Answering (plan : Planning) (s : Start) (id : ℕ) (after : List TableView) (readings : Option (List ℤ)) (conn : Held) (begun : Bool) (decides : Played → Played) : Type 0 where
+pub record Answering (plan : Planning) (s : Start) (id : ℕ) (after : List TableView) (readings : Option (List ℤ)) (conn : Dealing) (begun : Bool) (decides : Played → Played) : Type 0 where
   pub deciding : Deciding plan s id after readings decides
-  pub stands : IsSound conn deciding.behind.marked
+  pub stands : IsDealt conn deciding.behind.marked
+  pub left : IsLeftOf deciding.behind conn.left
   pub begun_is : has_answer deciding.behind.used id ≡ begun
 
 -- these things are still to be decided, on a call that has named this and has this body behind them
@@ -108,7 +122,7 @@ over id q = set_call q id None
 
 -- All things that a call asks at once are answered: it goes on, or is over; or memory was wanting. `begun` and `named` are
 -- then what is kept of the call beside its body.
-abbrev pub AsksAll : Asked → Planning → Start → (stream : ℕ) → (after : List TableView) (readings : Option (List ℤ)) → Held → (begun : Bool) → Named → Option Body → Type 0
+abbrev pub AsksAll : Asked → Planning → Start → (stream : ℕ) → (after : List TableView) (readings : Option (List ℤ)) → Dealing → (begun : Bool) → Named → Option Body → Type 0
 AsksAll asked.Goes plan s id after readings conn begun named body = Answering plan s id after readings conn begun (rest id named body [])
 AsksAll asked.Over plan s id after readings conn begun named body = (told : Bool) × Answering plan s id after readings conn told (over id)
 AsksAll asked.Memory plan s id after readings conn begun named body = HeededInPart plan s.frame s.played s.passes after s.readings readings
@@ -150,7 +164,7 @@ IsFresh used (event.TooLarge id) = has_answer used id ≡ false
 IsFresh used _ = Unit {0}
 
 -- a frame came and told this, of which nothing is answered yet
-pub record Hearing (plan : Planning) (s : Start) (passes : List TableView) (readings : Option (List ℤ)) (conn : Held) (kept : ℕ → Option Kept) (told : Event) : Type 0 where
+pub record Hearing (plan : Planning) (s : Start) (passes : List TableView) (readings : Option (List ℤ)) (conn : Dealing) (kept : ℕ → Option Kept) (told : Event) : Type 0 where
   pub answering : (id : ℕ) → Answering plan s id passes readings conn (has_answer s.played.used id) (hears told)
   pub kept_are : KeepsAll kept s
   pub fresh : IsFresh s.played.used told

@@ -44,7 +44,13 @@ fn give_head(
     conn.head(alloc, id, fields, end)
 }
 
-fn give_opening(alloc: Global, conn: &mut Conn, id: u32, begun: bool) -> Result<(), Memory>
+/// Gives the HEADERS of an answer, where none were given on its stream.
+pub(crate) fn give_opening(
+    alloc: Global,
+    conn: &mut Conn,
+    id: u32,
+    begun: bool,
+) -> Result<(), Memory>
     ensures { OnOk result (Gives conn.old conn.new id (opening begun)) }
 {
     if begun {
@@ -55,7 +61,13 @@ fn give_opening(alloc: Global, conn: &mut Conn, id: u32, begun: bool) -> Result<
     give_head(alloc, conn, id, &fields, false)
 }
 
-fn give_reply(alloc: Global, conn: &mut Conn, id: u32, message: &[u8]) -> Result<(), Memory>
+/// Gives a framed message.
+pub(crate) fn give_reply(
+    alloc: Global,
+    conn: &mut Conn,
+    id: u32,
+    message: &[u8],
+) -> Result<(), Memory>
     ensures { OnOk result (Gives conn.old conn.new id (reply_of message.now ∷ [])) }
 {
     if LONGEST_MESSAGE < message.len() {
@@ -77,7 +89,13 @@ fn give_replies(alloc: Global, conn: &mut Conn, id: u32, messages: &[Blob]) -> R
     Ok(())
 }
 
-fn give_tail(alloc: Global, conn: &mut Conn, id: u32, status: &Status) -> Result<(), Memory>
+/// Gives the trailers.
+pub(crate) fn give_tail(
+    alloc: Global,
+    conn: &mut Conn,
+    id: u32,
+    status: &Status,
+) -> Result<(), Memory>
     ensures { OnOk result (Gives conn.old conn.new id (Tail (trailers status.now) ∷ [])) }
 {
     if LONGEST_TEXT < status.text.text().len() || !conn.may_go_on(id) {

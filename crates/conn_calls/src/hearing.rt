@@ -7,27 +7,28 @@ ghost use Rattle.conn_requests.specs.Decided.{has_answer};
 ghost use Rattle.conn_service.specs.Going.{Kept};
 ghost use Rattle.call_plans.specs.Plans.{plan};
 ghost use Rattle.conn_calls.specs.Calls.{kept_in};
-ghost use Rattle.conn_calls.specs.Giving.{Marks};
+ghost use Rattle.conn_calls.specs.Dealing.{dealing_of, MarksOn};
 ghost use Rattle.conn_calls.specs.Heard.{Heeds};
 ghost use Rattle.conn_calls.specs.Answering.{Start, Answering, AsksAll, KeepsAll, KeepsOthers, Hearing, bodies, bodies_on, requests, refuses};
 
 use crate::asked::Asked;
 use crate::asking::{answer_all, answer_one};
 use crate::calls::{Calls, GoingCall};
+use crate::dealing::Dealing;
 use crate::gated::Gated;
 use crate::heard::Heard;
 use crate::service::Service;
 use append_calls::AppendCall;
 use conn_requests::{Ask, Call, Over, over_of};
-use h2_conn::{Conn, Event};
+use h2_conn::Event;
 use hpack_blocks::Field;
 use links::{Clock, Gate};
 use open_tables::Passes;
 use std::sync::Wait;
 
 /// A frame that asks something makes a request whole.
-fn mark(conn: &mut Conn, asks: &[Ask])
-    ensures { Marks conn.old conn.new asks.now }
+fn mark(conn: &mut Dealing<'_>, asks: &[Ask])
+    ensures { MarksOn (dealing_of conn.old) (dealing_of conn.new) asks.now }
 {
     if asks.is_empty() {
         return;
@@ -36,10 +37,10 @@ fn mark(conn: &mut Conn, asks: &[Ask])
 }
 
 /// Takes bytes of the body of a call, and answers what they ask.
-fn ask_call<R: Wait, C: Clock, G: Gate>(
-    service: &Service<'_, R>,
+fn ask_call<'t, R: Wait, C: Clock, G: Gate>(
+    service: &Service<'t, R>,
     passes: Passes,
-    conn: &mut Conn,
+    conn: &mut Dealing<'t>,
     clock: &mut C,
     gated: &mut Gated<'_, G>,
     id: u32,
@@ -50,8 +51,8 @@ fn ask_call<R: Wait, C: Clock, G: Gate>(
 ) -> (Passes, Asked)
     requires theirs { AreTheirs service.now.tables.now passes }
     ensures theirs { AreTheirs service.now.tables.now result.0 }
-    ensures asks { (s : Start) → Answering (plan (specs_of service.now.tables.now)) s id passes (C.readings clock.old) conn.old call.old.begun (bodies id bytes.now ended (record { body = call.old.body; named = append.old }))
-        → AsksAll result.1 (plan (specs_of service.now.tables.now)) s id result.0 (C.readings clock.new) conn.new call.new.begun append.new (Some call.new.body) }
+    ensures asks { (s : Start) → Answering (plan (specs_of service.now.tables.now)) s id passes (C.readings clock.old) (dealing_of conn.old) call.old.begun (bodies id bytes.now ended (record { body = call.old.body; named = append.old }))
+        → AsksAll result.1 (plan (specs_of service.now.tables.now)) s id result.0 (C.readings clock.new) (dealing_of conn.new) call.new.begun append.new (Some call.new.body) }
 {
     let Ok(asks) = call.hear(service.alloc, bytes, ended) else {
         return (passes, Asked::Memory);
@@ -61,10 +62,10 @@ fn ask_call<R: Wait, C: Clock, G: Gate>(
 }
 
 /// Takes bytes of the body of a call, which was taken out and is put back where it goes on.
-fn hear_call<R: Wait, C: Clock, G: Gate>(
-    service: &Service<'_, R>,
+fn hear_call<'t, R: Wait, C: Clock, G: Gate>(
+    service: &Service<'t, R>,
     passes: Passes,
-    conn: &mut Conn,
+    conn: &mut Dealing<'t>,
     calls: &mut Calls,
     clock: &mut C,
     gated: &mut Gated<'_, G>,
@@ -76,9 +77,9 @@ fn hear_call<R: Wait, C: Clock, G: Gate>(
 ) -> (Passes, Heard)
     requires theirs { AreTheirs service.now.tables.now passes }
     ensures theirs { AreTheirs service.now.tables.now result.0 }
-    ensures heeds { (s : Start) → Answering (plan (specs_of service.now.tables.now)) s id passes (C.readings clock.old) conn.old call.begun (bodies id bytes.now ended (record { body = call.body; named = append }))
+    ensures heeds { (s : Start) → Answering (plan (specs_of service.now.tables.now)) s id passes (C.readings clock.old) (dealing_of conn.old) call.begun (bodies id bytes.now ended (record { body = call.body; named = append }))
         → KeepsOthers (kept_in calls.old) s id
-        → Heeds result.1 (plan (specs_of service.now.tables.now)) s.frame s.played s.passes result.0 conn.new (kept_in calls.new) s.readings (C.readings clock.new) }
+        → Heeds result.1 (plan (specs_of service.now.tables.now)) s.frame s.played s.passes result.0 (dealing_of conn.new) (kept_in calls.new) s.readings (C.readings clock.new) }
 {
     let (passes, asked) = ask_call(
         service,
@@ -103,10 +104,10 @@ fn hear_call<R: Wait, C: Clock, G: Gate>(
 }
 
 /// Answers a request that opens no call.
-fn refuse<R: Wait, C: Clock, G: Gate>(
-    service: &Service<'_, R>,
+fn refuse<'t, R: Wait, C: Clock, G: Gate>(
+    service: &Service<'t, R>,
     passes: Passes,
-    conn: &mut Conn,
+    conn: &mut Dealing<'t>,
     clock: &mut C,
     gated: &mut Gated<'_, G>,
     id: u32,
@@ -114,9 +115,9 @@ fn refuse<R: Wait, C: Clock, G: Gate>(
 ) -> (Passes, Heard)
     requires theirs { AreTheirs service.now.tables.now passes }
     ensures theirs { AreTheirs service.now.tables.now result.0 }
-    ensures heeds { (s : Start) → (kept : ℕ → Option Kept) → Answering (plan (specs_of service.now.tables.now)) s id passes (C.readings clock.old) conn.old false (refuses id (ask.Ends over ∷ []))
+    ensures heeds { (s : Start) → (kept : ℕ → Option Kept) → Answering (plan (specs_of service.now.tables.now)) s id passes (C.readings clock.old) (dealing_of conn.old) false (refuses id (ask.Ends over ∷ []))
         → KeepsOthers kept s id
-        → Heeds result.1 (plan (specs_of service.now.tables.now)) s.frame s.played s.passes result.0 conn.new kept s.readings (C.readings clock.new) }
+        → Heeds result.1 (plan (specs_of service.now.tables.now)) s.frame s.played s.passes result.0 (dealing_of conn.new) kept s.readings (C.readings clock.new) }
 {
     conn.request_whole();
     let mut append = AppendCall::new(service.alloc);
@@ -140,10 +141,10 @@ fn refuse<R: Wait, C: Clock, G: Gate>(
 }
 
 /// A request begins, which opens a call or is refused.
-fn open_call<R: Wait, C: Clock, G: Gate>(
-    service: &Service<'_, R>,
+fn open_call<'t, R: Wait, C: Clock, G: Gate>(
+    service: &Service<'t, R>,
     passes: Passes,
-    conn: &mut Conn,
+    conn: &mut Dealing<'t>,
     calls: &mut Calls,
     clock: &mut C,
     gated: &mut Gated<'_, G>,
@@ -153,9 +154,9 @@ fn open_call<R: Wait, C: Clock, G: Gate>(
 ) -> (Passes, Heard)
     requires theirs { AreTheirs service.now.tables.now passes }
     ensures theirs { AreTheirs service.now.tables.now result.0 }
-    ensures heeds { (s : Start) → Answering (plan (specs_of service.now.tables.now)) s id passes (C.readings clock.old) conn.old false (requests id fields.now ended)
+    ensures heeds { (s : Start) → Answering (plan (specs_of service.now.tables.now)) s id passes (C.readings clock.old) (dealing_of conn.old) false (requests id fields.now ended)
         → KeepsOthers (kept_in calls.old) s id
-        → Heeds result.1 (plan (specs_of service.now.tables.now)) s.frame s.played s.passes result.0 conn.new (kept_in calls.new) s.readings (C.readings clock.new) }
+        → Heeds result.1 (plan (specs_of service.now.tables.now)) s.frame s.played s.passes result.0 (dealing_of conn.new) (kept_in calls.new) s.readings (C.readings clock.new) }
 {
     match Call::open(service.alloc, fields) {
         Ok(call) => {
@@ -182,10 +183,10 @@ fn open_call<R: Wait, C: Clock, G: Gate>(
 }
 
 /// Bytes of a body come on a stream. Where no call goes on there, they ask nothing.
-fn hear_body<R: Wait, C: Clock, G: Gate>(
-    service: &Service<'_, R>,
+fn hear_body<'t, R: Wait, C: Clock, G: Gate>(
+    service: &Service<'t, R>,
     passes: Passes,
-    conn: &mut Conn,
+    conn: &mut Dealing<'t>,
     calls: &mut Calls,
     clock: &mut C,
     gated: &mut Gated<'_, G>,
@@ -195,9 +196,9 @@ fn hear_body<R: Wait, C: Clock, G: Gate>(
 ) -> (Passes, Heard)
     requires theirs { AreTheirs service.now.tables.now passes }
     ensures theirs { AreTheirs service.now.tables.now result.0 }
-    ensures heeds { (s : Start) → Answering (plan (specs_of service.now.tables.now)) s id passes (C.readings clock.old) conn.old (has_answer s.played.used id) (bodies_on id bytes.now ended)
+    ensures heeds { (s : Start) → Answering (plan (specs_of service.now.tables.now)) s id passes (C.readings clock.old) (dealing_of conn.old) (has_answer s.played.used id) (bodies_on id bytes.now ended)
         → KeepsAll (kept_in calls.old) s
-        → Heeds result.1 (plan (specs_of service.now.tables.now)) s.frame s.played s.passes result.0 conn.new (kept_in calls.new) s.readings (C.readings clock.new) }
+        → Heeds result.1 (plan (specs_of service.now.tables.now)) s.frame s.played s.passes result.0 (dealing_of conn.new) (kept_in calls.new) s.readings (C.readings clock.new) }
 {
     match calls.take(id) {
         Some(GoingCall { call, append }) => hear_call(
@@ -208,10 +209,10 @@ fn hear_body<R: Wait, C: Clock, G: Gate>(
 }
 
 /// Hears what a frame tells, and answers all that it decides.
-pub(crate) fn hear<R: Wait, C: Clock, G: Gate>(
-    service: &Service<'_, R>,
+pub(crate) fn hear<'t, R: Wait, C: Clock, G: Gate>(
+    service: &Service<'t, R>,
     passes: Passes,
-    conn: &mut Conn,
+    conn: &mut Dealing<'t>,
     calls: &mut Calls,
     clock: &mut C,
     gated: &mut Gated<'_, G>,
@@ -219,8 +220,8 @@ pub(crate) fn hear<R: Wait, C: Clock, G: Gate>(
 ) -> (Passes, Heard)
     requires theirs { AreTheirs service.now.tables.now passes }
     ensures theirs { AreTheirs service.now.tables.now result.0 }
-    ensures heeds { (s : Start) → Hearing (plan (specs_of service.now.tables.now)) s passes (C.readings clock.old) conn.old (kept_in calls.old) event
-        → Heeds result.1 (plan (specs_of service.now.tables.now)) s.frame s.played s.passes result.0 conn.new (kept_in calls.new) s.readings (C.readings clock.new) }
+    ensures heeds { (s : Start) → Hearing (plan (specs_of service.now.tables.now)) s passes (C.readings clock.old) (dealing_of conn.old) (kept_in calls.old) event
+        → Heeds result.1 (plan (specs_of service.now.tables.now)) s.frame s.played s.passes result.0 (dealing_of conn.new) (kept_in calls.new) s.readings (C.readings clock.new) }
 {
     match event {
         Event::Opened {

@@ -5,14 +5,15 @@ ghost use Rattle.open_tables.specs.Tables.{AreTheirs, specs_of};
 ghost use Rattle.conn_requests.specs.Decided.{Played};
 ghost use Rattle.call_plans.specs.Plans.{plan};
 ghost use Rattle.conn_calls.specs.Calls.{kept_in};
+ghost use Rattle.conn_calls.specs.Dealing.{dealing_of};
 ghost use Rattle.conn_calls.specs.Heard.{IsAt, Heeds};
 
 use crate::calls::Calls;
+use crate::dealing::Dealing;
 use crate::gated::Gated;
 use crate::heard::Heard;
 use crate::hearing::hear;
 use crate::service::Service;
-use h2_conn::Conn;
 use h2_frames::Frame;
 use links::{Clock, Gate};
 use open_tables::{Passes, Tables};
@@ -26,12 +27,12 @@ use std::sync::Wait;
 /// Where memory is wanting, an answer is status 14, which ends its call; where there is none for that answer or the connection
 /// either, it is [`Heard::Memory`]: the first things that were decided are answered, but the latest answer may not be given,
 /// and neither the connection nor `calls` can be used again.
-pub fn heed<R: Wait, C: Clock, G: Gate>(
-    tables: &Tables,
-    rt: &R,
+pub fn heed<'t, R: Wait, C: Clock, G: Gate>(
+    tables: &'t Tables,
+    rt: &'t R,
     alloc: Global,
     passes: Passes,
-    conn: &mut Conn,
+    conn: &mut Dealing<'t>,
     calls: &mut Calls,
     clock: &mut C,
     gated: &mut Gated<'_, G>,
@@ -40,7 +41,7 @@ pub fn heed<R: Wait, C: Clock, G: Gate>(
     requires frame { IsFrame frame }
     requires theirs { AreTheirs tables.now passes }
     ensures theirs { AreTheirs tables.now result.0 }
-    ensures heeds { (p : Played) → IsAt p conn.old (kept_in calls.old) → Heeds result.1 (plan (specs_of tables.now)) frame p passes result.0 conn.new (kept_in calls.new) (C.readings clock.old) (C.readings clock.new) }
+    ensures heeds { (p : Played) → IsAt p (dealing_of conn.old) (kept_in calls.old) → Heeds result.1 (plan (specs_of tables.now)) frame p passes result.0 (dealing_of conn.new) (kept_in calls.new) (C.readings clock.old) (C.readings clock.new) }
 {
     let Ok(event) = conn.take(alloc, frame) else {
         return (passes, Heard::Memory);

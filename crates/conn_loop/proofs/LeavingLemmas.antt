@@ -1,5 +1,5 @@
 -- The end of a connection whose client broke a rule.
-use Rattle.std.proofs.Common.{◌≡◌, ℕ, List, [], ◌∷◌, ◌++◌, map, Option, Some, None, refl, sym, ap, ◌∙◌, subst}
+use Rattle.std.proofs.Common.{◌≡◌, ℕ, ◌≤◌, List, [], ◌∷◌, ◌++◌, map, Option, Some, None, refl, sym, ap, ◌∙◌, subst}
 use Rattle.outside.specs.Faults.{Rose}
 use Rattle.links.specs.Told.{more}
 use Rattle.links.specs.Link.{Moved, Read, Wrote}
@@ -12,16 +12,18 @@ use Rattle.h2_frames.specs.declared.reader.Next.{Next}
 use Rattle.h2_frames.specs.declared.reader.Next.TheVariants as answers
 use Rattle.h2_record.specs.Record.{Record, In, Out, Broken}
 use Rattle.h2_record.specs.Faults.{first_fault_of, fault_by}
-use Rattle.h2_record.specs.Control.{control_of, due_after}
+use Rattle.h2_record.specs.Control.{control_of, written_control_of, due_after}
 use Rattle.h2_record.specs.Due.{settled_control_of}
-use Rattle.h2_record.specs.Written.{EachWasDue}
-use Rattle.h2_conn.specs.Held.{Held}
-use Rattle.h2_conn.specs.Stands.{Stands}
 use Rattle.open_tables.specs.Tables.{TableView}
 use Rattle.conn_record.specs.Timeline.{Framing, framing_of, came}
 use Rattle.conn_record.specs.Marks.{unmarked, EachIsFrame}
 use Rattle.conn_record.specs.Written.{with_outs}
+use Rattle.conn_record.specs.declared.limits.TheConstants.{LEAST_ROOM}
 use Rattle.conn_record.proofs.Marks.{timelines-are-spelled}
+use Rattle.conn_deferral.specs.Deferred.{Dealing, Deals}
+use Rattle.conn_deferral.proofs.Frames.{unmarked-same}
+use Rattle.conn_deferral.proofs.Dues.{control-both, settled-both}
+use Rattle.conn_deferral.proofs.Rest.{frames-over}
 use Rattle.conn_record.proofs.Quiet.{rest-is-said}
 use Rattle.conn_service.specs.declared.ending.Ending.TheVariants as ending
 use Rattle.conn_service.specs.Served.{Planning}
@@ -29,9 +31,9 @@ use Rattle.conn_service.specs.Serves.{Shown, Serves}
 use Rattle.conn_service.specs.Going.{Kept}
 use Rattle.conn_service.specs.Steps.{Moves, met, Breaks}
 use Rattle.conn_service.proofs.GoingLemmas.{frames_now}
-use Rattle.conn_service.proofs.StepLemmas.{due-outs}
 use Rattle.conn_service.proofs.ReadLemmas.{framed}
 use Rattle.conn_service.proofs.GoawayLemmas.{goaway-ends, parts-end}
+use Rattle.conn_deferral.specs.Resting.{SaysAll}
 use Rattle.conn_loop.specs.Settling.{Went, LeavesNone, WentInPart}
 use Rattle.conn_loop.specs.Rounds.{HasHeard, HasBroken}
 use Rattle.conn_loop.proofs.WentLemmas.{quiet-then, part-then, whole-part}
@@ -47,11 +49,6 @@ fault-outs : (r : Record) (frames : List Frame) → first_fault_of (with_outs r 
 fault-outs r [] = refl
 fault-outs r (frame ∷ frames) = fault-outs (Out frame ∷ r) frames
 
-due-met : (r : Record) (answer : Next) → EachWasDue r → EachWasDue (met answer r)
-due-met r (answers.Frame frame) each = each
-due-met r answers.More each = each
-due-met r (answers.Fault broken) each = each
-
 unmarked-met : (r : Record) (s : Framing) (held : ReaderHeld) (answer : Next) → unmarked r ≡ s.frames → unmarked (met answer r) ≡ (came s held answer).frames
 unmarked-met r s held (answers.Frame frame) same = ap (λ fs. In frame ∷ fs) same
 unmarked-met r s held answers.More same = same
@@ -61,32 +58,40 @@ frames-outs : (r : Record) (frames : List Frame) → EachIsFrame r → EachIsFra
 frames-outs r [] each = each
 frames-outs r (frame ∷ frames) each = frames-outs (Out frame ∷ r) frames each
 
+-- all control frames are written
+all-of-it : (dealing : Dealing) (room : ℕ) (r : Record) → SaysAll dealing room r → EachIsFrame r → LEAST_ROOM ≤ room → written_control_of r ≡ settled_control_of r
+all-of-it dealing room r all frames_are wide =
+    let given = all.deals.given in
+    let same = all.deals.defers.same in
+    let frames_same : unmarked r ≡ unmarked given = sym (unmarked-same r) ∙ ap unmarked (sym same) ∙ unmarked-same given in
+    sym (control-both given r same) ∙ rest-is-said given room (frames-over r given frames_same frames_are) all.deals.was_due wide all.none ∙ settled-both given r same
+
 -- behind a connection error no credit is due any more
 settled-is-control : (r : Record) (fault : H2Fault) → first_fault_of r ≡ Some fault → settled_control_of r ≡ control_of r
 settled-is-control r fault met = ap (λ f. due_after (control_of r) [] r f None) met
 
 module _ (plan : Planning) (passes0 passes : List TableView) (old now : Shown) where
   -- what was read breaks the rule by itself
-  pub breaks-framing : (fault : H2Fault) (conn behind : Held) (reader : ReaderHeld) (kept : ℕ → Option Kept) → HasHeard plan passes0 passes old now (answers.Fault fault) conn reader kept
-      → ((r : Record) → Stands conn r → Stands behind (Broken fault ∷ r)) → HasBroken plan passes0 passes old now fault behind
-  breaks-framing fault conn behind reader kept h stands = record {
+  pub breaks-framing : (fault : H2Fault) (conn behind : Dealing) (reader : ReaderHeld) (kept : ℕ → Option Kept) → HasHeard plan passes0 passes old now (answers.Fault fault) conn reader kept
+      → ((r : Record) → Deals conn r → Deals behind (Broken fault ∷ r)) → HasBroken plan passes0 passes old now fault behind
+  breaks-framing fault conn behind reader kept h deals = record {
     answer = answers.Fault fault;
     before = conn;
     reader = reader;
     kept = kept;
     read = h;
     breaks = refl;
-    stands = stands h.going.played.marked h.going.stands;
+    deals = deals h.going.played.marked h.going.deals;
   }
 
   -- memory was wanting before GOAWAY could wait
-  pub breaks-memory : (fault : H2Fault) (conn : Held) (reader : ReaderHeld) (kept : ℕ → Option Kept) → HasHeard plan passes0 passes old now (answers.Fault fault) conn reader kept
+  pub breaks-memory : (fault : H2Fault) (conn : Dealing) (reader : ReaderHeld) (kept : ℕ → Option Kept) → HasHeard plan passes0 passes old now (answers.Fault fault) conn reader kept
       → Serves plan passes0 passes old now ending.Memory
   breaks-memory fault conn reader kept h =
       (parts-end plan passes0 passes old h.before conn h.held kept h.going now h.bytes (answers.Fault fault) h.heard fault [] [] [] refl tt tt refl
       (record { log = h.log; readings = h.readings })).1 h.faults
 
-  module _ (fault : H2Fault) (conn : Held) (b : HasBroken plan passes0 passes old now fault conn) (next : Shown) (readings : next.readings ≡ now.readings) where
+  module _ (fault : H2Fault) (conn : Dealing) (b : HasBroken plan passes0 passes old now fault conn) (next : Shown) (readings : next.readings ≡ now.readings) where
     abbrev r : Record
     r = met b.answer b.read.going.played.marked
 
@@ -105,50 +110,49 @@ module _ (plan : Planning) (passes0 passes : List TableView) (old now : Shown) w
         ∙ sym (ap (λ f. f.frames) (framed plan passes0 passes old b.read.before b.before b.read.held b.kept g next b.read.bytes b.answer b.read.heard)))
 
     -- a part of it is written
-    left-in-part : WentInPart conn now.log next.log
+    left-in-part : WentInPart Deals conn now.log next.log
         → (Rose b.read.before.faults next.faults → Serves plan passes0 passes old next ending.LinkFault) × (next.faults ≡ b.read.before.faults → Serves plan passes0 passes old next ending.Memory)
     left-in-part w =
-        parts-end plan passes0 passes old b.read.before b.before b.read.held b.kept b.read.going next b.read.bytes b.answer b.read.heard fault w.frames w.pieces w.left b.breaks (w.due r b.stands) w.sendable w.joined
+        parts-end plan passes0 passes old b.read.before b.before b.read.held b.kept b.read.going next b.read.bytes b.answer b.read.heard fault w.frames w.pieces w.left b.breaks (w.due r b.deals) w.sendable w.joined
         (moves w.pieces w.told)
 
-    all-said : (behind : Held) (w : Went conn behind now.log next.log) → LeavesNone conn w.frames → next.faults ≡ now.faults → Serves plan passes0 passes old next (ending.Goaway fault.code fault.rule)
+    all-said : (behind : Dealing) (w : Went Deals conn behind now.log next.log) → LeavesNone Deals SaysAll conn behind w.frames → next.faults ≡ now.faults → Serves plan passes0 passes old next (ending.Goaway fault.code fault.rule)
     all-said behind w none count =
         let g = b.read.going in
-        let due = w.due r b.stands in
-        let each = due-outs r w.frames (due-met g.played.marked b.answer g.was_due) due in
-        let said = rest-is-said (with_outs r w.frames) none.room (frames-outs r w.frames each-is-frame) each none.enough (none.none r b.stands) in
+        let due = w.due r b.deals in
+        let said = all-of-it behind none.room (with_outs r w.frames) (none.none r b.deals) (frames-outs r w.frames each-is-frame) none.enough in
         let met_fault = fault-outs r w.frames ∙ fault-met g.played.marked fault b.answer g.sound b.breaks in
         goaway-ends plan passes0 passes old b.read.before b.before b.read.held b.kept g next b.read.bytes b.answer b.read.heard fault w.frames w.pieces b.breaks due w.sendable w.joined
         (moves w.pieces w.told) (count ∙ b.read.faults) (said ∙ settled-is-control (with_outs r w.frames) fault met_fault)
 
-    module _ (between : Held) (log : Option (List Moved)) (faults : ℕ) (so_far : Went conn between now.log log) (same : faults ≡ now.faults) where
+    module _ (between : Dealing) (log : Option (List Moved)) (faults : ℕ) (so_far : Went Deals conn between now.log log) (same : faults ≡ now.faults) where
       -- all is written, GOAWAY the last of it
-      pub left-said : (behind : Held) (w : Went between behind log next.log) → LeavesNone between w.frames → next.faults ≡ faults → Serves plan passes0 passes old next (ending.Goaway fault.code fault.rule)
+      pub left-said : (behind : Dealing) (w : Went Deals between behind log next.log) → LeavesNone Deals SaysAll between behind w.frames → next.faults ≡ faults → Serves plan passes0 passes old next (ending.Goaway fault.code fault.rule)
       left-said behind w none count =
-          let both = quiet-then conn between now.log log next.log so_far behind w none in
+          let both = quiet-then Deals conn between now.log log next.log so_far SaysAll behind w none in
           all-said behind both.0 both.1 (count ∙ same)
 
-      pub left-fault : WentInPart between log next.log → Rose faults next.faults → Serves plan passes0 passes old next ending.LinkFault
+      pub left-fault : WentInPart Deals between log next.log → Rose faults next.faults → Serves plan passes0 passes old next ending.LinkFault
       left-fault w rose =
           let C : ℕ → Type 0 = λ n. Rose n next.faults in
-          (left-in-part (part-then conn between now.log log next.log so_far w)).0 (subst C (same ∙ b.read.faults) rose)
+          (left-in-part (part-then Deals conn between now.log log next.log so_far w)).0 (subst C (same ∙ b.read.faults) rose)
 
       pub left-memory : next.log ≡ log → next.faults ≡ faults → Serves plan passes0 passes old next ending.Memory
       left-memory told count =
-          let W : Option (List Moved) → Type 0 = λ l. WentInPart conn now.log l in
-          (left-in-part (subst W (sym told) (whole-part conn between now.log log so_far))).1 (count ∙ same ∙ b.read.faults)
+          let W : Option (List Moved) → Type 0 = λ l. WentInPart Deals conn now.log l in
+          (left-in-part (subst W (sym told) (whole-part Deals conn between now.log log so_far))).1 (count ∙ same ∙ b.read.faults)
 
 -- ---- a frame breaks a rule
 
-pub frame-breaks : (plan : Planning) (passes0 passes : List TableView) (old now : Shown) (frame : Frame) (fault : H2Fault) (conn behind : Held) (reader : ReaderHeld) (kept : ℕ → Option Kept)
-    → (h : HasHeard plan passes0 passes old now (answers.Frame frame) conn reader kept) → fault_by h.going.played.marked frame ≡ Some fault → Stands behind (In frame ∷ h.going.played.marked)
+pub frame-breaks : (plan : Planning) (passes0 passes : List TableView) (old now : Shown) (frame : Frame) (fault : H2Fault) (conn behind : Dealing) (reader : ReaderHeld) (kept : ℕ → Option Kept)
+    → (h : HasHeard plan passes0 passes old now (answers.Frame frame) conn reader kept) → fault_by h.going.played.marked frame ≡ Some fault → Deals behind (In frame ∷ h.going.played.marked)
     → HasBroken plan passes0 passes old now fault behind
-frame-breaks plan passes0 passes old now frame fault conn behind reader kept h breaks stands = record {
+frame-breaks plan passes0 passes old now frame fault conn behind reader kept h breaks deals = record {
   answer = answers.Frame frame;
   before = conn;
   reader = reader;
   kept = kept;
   read = h;
   breaks = breaks;
-  stands = stands;
+  deals = deals;
 }

@@ -11,9 +11,9 @@ use Rattle.h2_frames.specs.Run.{nothing_held}
 use Rattle.h2_frames.specs.declared.frame.Frame.{Frame}
 use Rattle.h2_frames.specs.declared.reader.Next.{Next}
 use Rattle.h2_frames.specs.declared.reader.Next.TheVariants as answers
-use Rattle.h2_record.specs.Quiet.{NoneFits}
-use Rattle.h2_conn.specs.Held.{Held}
 use Rattle.h2_conn.specs.Stands.{Stands}
+use Rattle.conn_deferral.specs.Deferred.{Dealing}
+use Rattle.conn_deferral.specs.Resting.{DealsAll}
 use Rattle.open_tables.specs.Tables.{TableView}
 use Rattle.conn_record.specs.declared.limits.TheConstants.{MOST_BEHIND}
 use Rattle.conn_record.specs.Timeline.{framing_of, timeline_of}
@@ -30,36 +30,41 @@ use Rattle.conn_service.proofs.StepLemmas.{writes-go-on, waits-go-on, fault-ends
 use Rattle.conn_service.proofs.ReadLemmas.{reads-go-on, frames-go-on, frames-end}
 use Rattle.conn_service.proofs.GoawayLemmas.{parts-end}
 use Rattle.conn_loop.specs.Settling.{Went, LeavesNone, WentInPart}
+use Rattle.conn_calls.specs.Dealing.{IsDealt}
 use Rattle.conn_calls.specs.Heard.{IsAt}
 use Rattle.conn_loop.specs.Rounds.{Stays, IsReady, HasHeard}
 use Rattle.conn_loop.proofs.NothingLemmas.{heeded-none}
 
 -- where all is written, a frame may begin
-pub quiet-is-ready : (plan : Planning) (passes0 passes : List TableView) (old now : Shown) (conn : Held) (reader : ReaderHeld) (kept : ℕ → Option Kept) (quiet : Bool) → quiet ≡ true
+pub quiet-is-ready : (plan : Planning) (passes0 passes : List TableView) (old now : Shown) (conn : Dealing) (reader : ReaderHeld) (kept : ℕ → Option Kept) (quiet : Bool) → quiet ≡ true
     → Stays plan passes0 passes old now conn reader kept quiet → IsReady plan passes0 passes old now conn reader kept quiet
 quiet-is-ready plan passes0 passes old now conn reader kept quiet is s = record { going = s.going; quiet = s.quiet; ready = inl (s.quiet is) }
 
-module _ (plan : Planning) (passes0 passes : List TableView) (old now : Shown) (conn : Held) (reader : ReaderHeld) (kept : ℕ → Option Kept) (next : Shown) where
+-- the connection stands for what was given of what was decided
+dealt : {plan : Planning} {passes0 passes : List TableView} {old now : Shown} {conn : Dealing} {reader : ReaderHeld} {kept : ℕ → Option Kept} (g : Going plan passes0 passes old now conn reader kept) → IsDealt conn g.played.marked
+dealt g = record { deals = g.deals; sound = g.sound; was_open = g.was_open; was_due = g.was_due }
+
+module _ (plan : Planning) (passes0 passes : List TableView) (old now : Shown) (conn : Dealing) (reader : ReaderHeld) (kept : ℕ → Option Kept) (next : Shown) where
   -- ---- frames are written
 
   module _ (g : Going plan passes0 passes old now conn reader kept) (readings : next.readings ≡ now.readings) where
-    went-on : (behind : Held) (w : Went conn behind now.log next.log) → next.faults ≡ now.faults
+    went-on : (behind : Dealing) (w : Went IsDealt conn behind now.log next.log) → next.faults ≡ now.faults
         → (after : Going plan passes0 passes old next behind reader kept) × (after.played ≡ gone g.played w.frames) × ((framing_of after.log).since ≡ (framing_of g.log).since + length (concat w.pieces))
     went-on behind w count =
-        writes-go-on plan passes0 passes old now conn reader kept g next w.frames w.pieces (record { due = w.due g.played.marked g.stands; sendable = w.sendable })
-        (record { log = w.told; readings = readings }) behind w.joined count (w.stands g.played.marked g.stands)
+        writes-go-on plan passes0 passes old now conn reader kept g next w.frames w.pieces (record { due = w.due g.played.marked (dealt g); sendable = w.sendable })
+        (record { log = w.told; readings = readings }) behind w.joined count (w.holds g.played.marked (dealt g)).deals (w.left g.played g.left)
 
     -- until no frame that is due fits
-    pub settled-quiet : (behind : Held) (w : Went conn behind now.log next.log) → next.faults ≡ now.faults
-        → LeavesNone conn w.frames → IsReady plan passes0 passes old next behind reader kept true
+    pub settled-quiet : (behind : Dealing) (w : Went IsDealt conn behind now.log next.log) → next.faults ≡ now.faults
+        → LeavesNone IsDealt DealsAll conn behind w.frames → IsReady plan passes0 passes old next behind reader kept true
     settled-quiet behind w count none =
         let after = went-on behind w count in
-        let N : Played → Type 0 = λ p. NoneFits p.marked none.room in
-        let written : IsWritten after.0.played = quiet-at-rest plan passes0 passes old next behind reader kept after.0 none.room none.enough (subst N (sym after.1) (none.none g.played.marked g.stands)) in
+        let N : Played → Type 0 = λ p. DealsAll behind none.room p.marked in
+        let written : IsWritten after.0.played = quiet-at-rest plan passes0 passes old next behind reader kept after.0 none.room none.enough (subst N (sym after.1) (none.none g.played.marked (dealt g))) in
         record { going = after.0; quiet = λ is. written; ready = inl written }
 
     -- until much was written
-    pub settled-behind : (behind : Held) (w : Went conn behind now.log next.log) → next.faults ≡ now.faults → MOST_BEHIND ≤ length (concat w.pieces)
+    pub settled-behind : (behind : Dealing) (w : Went IsDealt conn behind now.log next.log) → next.faults ≡ now.faults → MOST_BEHIND ≤ length (concat w.pieces)
         → (quiet : Bool) → quiet ≡ false → IsReady plan passes0 passes old next behind reader kept quiet
     settled-behind behind w count much quiet not =
         let after = went-on behind w count in
@@ -67,15 +72,15 @@ module _ (plan : Planning) (passes0 passes : List TableView) (old now : Shown) (
         record { going = after.0; quiet = λ is. absurd cc; ready = inr (subst P (sym after.2) (omega (arith, much))) }
 
     -- until the link met a fault
-    pub settled-fault : WentInPart conn now.log next.log → Rose now.faults next.faults → Serves plan passes0 passes old next ending.LinkFault
+    pub settled-fault : WentInPart IsDealt conn now.log next.log → Rose now.faults next.faults → Serves plan passes0 passes old next ending.LinkFault
     settled-fault w rose =
-        fault-ends plan passes0 passes old now conn reader kept g next w.frames w.pieces (record { due = w.due g.played.marked g.stands; sendable = w.sendable })
+        fault-ends plan passes0 passes old now conn reader kept g next w.frames w.pieces (record { due = w.due g.played.marked (dealt g); sendable = w.sendable })
         (record { log = w.told; readings = readings }) w.left w.joined rose
 
     nothing-moved : next.log ≡ now.log → next.faults ≡ now.faults → (after : Going plan passes0 passes old next conn reader kept) × (after.played ≡ g.played)
     nothing-moved log count =
         let after = writes-go-on plan passes0 passes old now conn reader kept g next [] [] (record { due = tt; sendable = tt })
-        (record { log = log ∙ sym (more-nil now.log); readings = readings }) conn refl count g.stands in
+        (record { log = log ∙ sym (more-nil now.log); readings = readings }) conn refl count g.deals g.left in
         (after.0, after.1)
 
     pub moved-nothing : next.log ≡ now.log → next.faults ≡ now.faults → Serves plan passes0 passes old next ending.Memory
@@ -146,12 +151,12 @@ module _ (plan : Planning) (passes0 passes : List TableView) (old now : Shown) (
 
 -- ---- a frame is heeded
 
-pub is-at : (plan : Planning) (passes0 passes : List TableView) (old now : Shown) (conn : Held) (reader : ReaderHeld) (kept : ℕ → Option Kept) (g : Going plan passes0 passes old now conn reader kept) → IsAt g.played conn kept
+pub is-at : (plan : Planning) (passes0 passes : List TableView) (old now : Shown) (conn : Dealing) (reader : ReaderHeld) (kept : ℕ → Option Kept) (g : Going plan passes0 passes old now conn reader kept) → IsAt g.played conn kept
 is-at plan passes0 passes old now conn reader kept g =
-    record { frames = timeline_of g.log; plays = g.plays; stands = g.stands; calls = g.calls; sound = g.sound; answered = g.answered; was_open = g.was_open; was_due = g.was_due }
+    record { frames = timeline_of g.log; plays = g.plays; deals = g.deals; left = g.left; calls = g.calls; sound = g.sound; answered = g.answered; was_open = g.was_open; was_due = g.was_due }
 
-module _ (plan : Planning) (passes0 passes : List TableView) (old now : Shown) (frame : Frame) (conn : Held) (reader : ReaderHeld) (kept : ℕ → Option Kept) (h : HasHeard plan passes0 passes old now (answers.Frame frame) conn reader kept) (next : Shown) (log : next.log ≡ now.log) (count : next.faults ≡ now.faults) where
-  pub frame-goes : (after : List TableView) (behind : Held) (keeps : ℕ → Option Kept) → Heeded plan frame h.going.played passes after behind keeps now.readings next.readings
+module _ (plan : Planning) (passes0 passes : List TableView) (old now : Shown) (frame : Frame) (conn : Dealing) (reader : ReaderHeld) (kept : ℕ → Option Kept) (h : HasHeard plan passes0 passes old now (answers.Frame frame) conn reader kept) (next : Shown) (log : next.log ≡ now.log) (count : next.faults ≡ now.faults) where
+  pub frame-goes : (after : List TableView) (behind : Dealing) (keeps : ℕ → Option Kept) → Heeded plan frame h.going.played passes after behind keeps now.readings next.readings
       → Stays plan passes0 after old next behind reader keeps false
   frame-goes after behind keeps heeded =
       let H : Option (List ℤ) → Type 0 = λ earlier. Heeded plan frame h.going.played passes after behind keeps earlier next.readings in
@@ -166,7 +171,7 @@ module _ (plan : Planning) (passes0 passes : List TableView) (old now : Shown) (
 
 -- ---- the client's bytes end
 
-module _ (plan : Planning) (passes0 passes : List TableView) (old now : Shown) (conn : Held) (reader : ReaderHeld) (kept : ℕ → Option Kept) (quiet : Bool) (s : Stays plan passes0 passes old now conn reader kept quiet) (is : quiet ≡ true) (met : now.ended ≡ true) (spent : IsSpent now.left) where
+module _ (plan : Planning) (passes0 passes : List TableView) (old now : Shown) (conn : Dealing) (reader : ReaderHeld) (kept : ℕ → Option Kept) (quiet : Bool) (s : Stays plan passes0 passes old now conn reader kept quiet) (is : quiet ≡ true) (met : now.ended ≡ true) (spent : IsSpent now.left) where
   pub at-done : (have : ℕ) → have ≡ length reader.bytes → have ≡ 0 → Serves plan passes0 passes old now ending.Done
   at-done have counts none =
       let P : ℕ → Type 0 = λ n. (n == 0) ≡ true in
@@ -182,14 +187,14 @@ module _ (plan : Planning) (passes0 passes : List TableView) (old now : Shown) (
 
 -- ---- the first round
 
-pub begins : (plan : Planning) (passes : List TableView) (now : Shown) (conn : Held) (reader : ReaderHeld) (kept : ℕ → Option Kept) (quiet : Bool) → Stands conn [] → reader ≡ nothing_held
+pub begins : (plan : Planning) (passes : List TableView) (now : Shown) (conn : Dealing) (reader : ReaderHeld) (kept : ℕ → Option Kept) (quiet : Bool) → Stands conn.conn [] → ((id : ℕ) → conn.left id ≡ []) → reader ≡ nothing_held
     → ((id : ℕ) → kept id ≡ None) → quiet ≡ false → Stays plan passes passes now now conn reader kept quiet
-begins plan passes now conn reader kept quiet stands nothing none not =
+begins plan passes now conn reader kept quiet stands empty nothing none not =
     let P : ReaderHeld → Type 0 = λ h. Stays plan passes passes now now conn h kept quiet in
-    subst P (sym nothing) (record { going = going-begins plan passes now conn kept stands none; quiet = λ is. absurd cc })
+    subst P (sym nothing) (record { going = going-begins plan passes now conn kept stands empty none; quiet = λ is. absurd cc })
 
 -- bytes are wanted
-pub wants : (plan : Planning) (passes0 passes : List TableView) (old now : Shown) (conn : Held) (reader : ReaderHeld) (kept : ℕ → Option Kept) (quiet : Bool) → Stays plan passes0 passes old now conn reader kept quiet
+pub wants : (plan : Planning) (passes0 passes : List TableView) (old now : Shown) (conn : Dealing) (reader : ReaderHeld) (kept : ℕ → Option Kept) (quiet : Bool) → Stays plan passes0 passes old now conn reader kept quiet
     → 0 < need_of reader
 wants plan passes0 passes old now conn reader kept quiet s =
     let P : ReaderHeld → Type 0 = λ h. 0 < need_of h in

@@ -7,12 +7,10 @@ use Rattle.links.proofs.ToldLemmas.{more-nil, more-more}
 use Rattle.h2_frames.specs.declared.frame.Frame.{Frame}
 use Rattle.h2_frames.specs.Spelling.{spelling}
 use Rattle.h2_record.specs.Record.{Record, Out}
-use Rattle.h2_record.specs.Quiet.{NoneFits}
-use Rattle.h2_conn.specs.Held.{Held}
-use Rattle.h2_conn.specs.Stands.{Stands}
+use Rattle.conn_deferral.specs.Deferred.{Dealing}
 use Rattle.conn_record.specs.Written.{with_outs, AreDue}
 use Rattle.conn_record.specs.Sending.{IsSendable}
-use Rattle.conn_loop.specs.Settling.{Went, LeavesNone, WentInPart}
+use Rattle.conn_loop.specs.Settling.{Holding, Resting, Went, LeavesNone, WentInPart}
 
 outs-then : (r : Record) (first others : List Frame) → with_outs r (first ++ others) ≡ with_outs (with_outs r first) others
 outs-then r [] others = refl
@@ -43,64 +41,67 @@ told-then : (log0 between log : Option (List Moved)) (first others : List (List 
 told-then log0 between log first others told then =
     then ∙ ap (λ l. more l (map Wrote others)) told ∙ more-more log0 (map Wrote first) (map Wrote others) ∙ ap (λ l. more log0 l) (sym (wrote-then first others))
 
-pub went-nothing : (conn : Held) (log : Option (List Moved)) → Went conn conn log log
-went-nothing conn log = record {
-  frames = [];
-  pieces = [];
-  told = sym (more-nil log);
-  joined = refl;
-  sendable = tt;
-  due = λ r stands. tt;
-  stands = λ r stands. stands;
-}
-
-module _ (old between : Held) (log0 log1 log : Option (List Moved)) (w : Went old between log0 log1) where
-  due-behind : (r : Record) (frames : List Frame) → Stands old r → ((s : Record) → Stands between s → AreDue s frames) → AreDue r (w.frames ++ frames)
-  due-behind r frames stands due = due-then r w.frames frames (w.due r stands) (due (with_outs r w.frames) (w.stands r stands))
-
-  pub went-then : (new : Held) → Went between new log1 log → Went old new log0 log
-  went-then new v = record {
-    frames = w.frames ++ v.frames;
-    pieces = w.pieces ++ v.pieces;
-    told = told-then log0 log1 log w.pieces v.pieces w.told v.told;
-    joined = concat-then w.pieces v.pieces ∙ ap (λ l. l ++ concat v.pieces) w.joined ∙ ap (λ l. flat_map spelling w.frames ++ l) v.joined ∙ sym (spelling-then w.frames v.frames);
-    sendable = sendable-then w.frames v.frames w.sendable v.sendable;
-    due = λ r stands. due-behind r v.frames stands v.due;
-    stands = λ r stands. subst (Stands new) (sym (outs-then r w.frames v.frames)) (v.stands (with_outs r w.frames) (w.stands r stands));
+module _ (Holds : Holding) where
+  pub went-nothing : (conn : Dealing) (log : Option (List Moved)) → Went Holds conn conn log log
+  went-nothing conn log = record {
+    frames = [];
+    pieces = [];
+    told = sym (more-nil log);
+    joined = refl;
+    sendable = tt;
+    due = λ r holds. tt;
+    holds = λ r holds. holds;
+    left = λ p left. left;
   }
 
-  none-then : (frames : List Frame) → LeavesNone between frames → LeavesNone old (w.frames ++ frames)
-  none-then frames none = record {
-    room = none.room;
-    enough = none.enough;
-    none = λ r stands. let N : Record → Type 0 = λ s. NoneFits s none.room in subst N (sym (outs-then r w.frames frames)) (none.none (with_outs r w.frames) (w.stands r stands));
+  module _ (old between : Dealing) (log0 log1 log : Option (List Moved)) (w : Went Holds old between log0 log1) where
+    due-behind : (r : Record) (frames : List Frame) → Holds old r → ((s : Record) → Holds between s → AreDue s frames) → AreDue r (w.frames ++ frames)
+    due-behind r frames holds due = due-then r w.frames frames (w.due r holds) (due (with_outs r w.frames) (w.holds r holds))
+
+    pub went-then : (new : Dealing) → Went Holds between new log1 log → Went Holds old new log0 log
+    went-then new v = record {
+      frames = w.frames ++ v.frames;
+      pieces = w.pieces ++ v.pieces;
+      told = told-then log0 log1 log w.pieces v.pieces w.told v.told;
+      joined = concat-then w.pieces v.pieces ∙ ap (λ l. l ++ concat v.pieces) w.joined ∙ ap (λ l. flat_map spelling w.frames ++ l) v.joined ∙ sym (spelling-then w.frames v.frames);
+      sendable = sendable-then w.frames v.frames w.sendable v.sendable;
+      due = λ r holds. due-behind r v.frames holds v.due;
+      holds = λ r holds. subst (Holds new) (sym (outs-then r w.frames v.frames)) (v.holds (with_outs r w.frames) (w.holds r holds));
+      left = λ p left. v.left p (w.left p left);
+    }
+
+    none-then : (Rests : Resting) (new : Dealing) (frames : List Frame) → LeavesNone Holds Rests between new frames → LeavesNone Holds Rests old new (w.frames ++ frames)
+    none-then Rests new frames none = record {
+      room = none.room;
+      enough = none.enough;
+      none = λ r holds. let N : Record → Type 0 = λ s. Rests new none.room s in subst N (sym (outs-then r w.frames frames)) (none.none (with_outs r w.frames) (w.holds r holds));
+    }
+
+    -- until no frame that is due fits
+    pub quiet-then : (Rests : Resting) (new : Dealing) (v : Went Holds between new log1 log) → LeavesNone Holds Rests between new v.frames → (u : Went Holds old new log0 log) × LeavesNone Holds Rests old new u.frames
+    unfolding went-then
+    quiet-then Rests new v none = (went-then new v, none-then Rests new v.frames none)
+
+    pub part-then : WentInPart Holds between log1 log → WentInPart Holds old log0 log
+    part-then v = record {
+      frames = w.frames ++ v.frames;
+      pieces = w.pieces ++ v.pieces;
+      left = v.left;
+      told = told-then log0 log1 log w.pieces v.pieces w.told v.told;
+      joined = ap (λ l. l ++ v.left) (concat-then w.pieces v.pieces) ∙ append_assoc (concat w.pieces) (concat v.pieces) v.left
+          ∙ ap (λ l. l ++ (concat v.pieces ++ v.left)) w.joined ∙ ap (λ l. flat_map spelling w.frames ++ l) v.joined ∙ sym (spelling-then w.frames v.frames);
+      sendable = sendable-then w.frames v.frames w.sendable v.sendable;
+      due = λ r holds. due-behind r v.frames holds v.due;
+    }
+
+  -- all of them went
+  pub whole-part : (old new : Dealing) (log0 log : Option (List Moved)) → Went Holds old new log0 log → WentInPart Holds old log0 log
+  whole-part old new log0 log w = record {
+    frames = w.frames;
+    pieces = w.pieces;
+    left = [];
+    told = w.told;
+    joined = append-nil (concat w.pieces) ∙ w.joined;
+    sendable = w.sendable;
+    due = w.due;
   }
-
-  -- until no frame that is due fits
-  pub quiet-then : (new : Held) (v : Went between new log1 log) → LeavesNone between v.frames → (u : Went old new log0 log) × LeavesNone old u.frames
-  unfolding went-then
-  quiet-then new v none = (went-then new v, none-then v.frames none)
-
-  pub part-then : WentInPart between log1 log → WentInPart old log0 log
-  part-then v = record {
-    frames = w.frames ++ v.frames;
-    pieces = w.pieces ++ v.pieces;
-    left = v.left;
-    told = told-then log0 log1 log w.pieces v.pieces w.told v.told;
-    joined = ap (λ l. l ++ v.left) (concat-then w.pieces v.pieces) ∙ append_assoc (concat w.pieces) (concat v.pieces) v.left
-        ∙ ap (λ l. l ++ (concat v.pieces ++ v.left)) w.joined ∙ ap (λ l. flat_map spelling w.frames ++ l) v.joined ∙ sym (spelling-then w.frames v.frames);
-    sendable = sendable-then w.frames v.frames w.sendable v.sendable;
-    due = λ r stands. due-behind r v.frames stands v.due;
-  }
-
--- all of them went
-pub whole-part : (old new : Held) (log0 log : Option (List Moved)) → Went old new log0 log → WentInPart old log0 log
-whole-part old new log0 log w = record {
-  frames = w.frames;
-  pieces = w.pieces;
-  left = [];
-  told = w.told;
-  joined = append-nil (concat w.pieces) ∙ w.joined;
-  sendable = w.sendable;
-  due = w.due;
-}

@@ -8,8 +8,7 @@ use Rattle.h2_frames.specs.declared.frame.Frame.{Frame}
 use Rattle.h2_frames.specs.declared.reader.Next.{Next}
 use Rattle.h2_frames.specs.declared.reader.Next.TheVariants as answers
 use Rattle.h2_frames.specs.declared.fault.H2Fault.{H2Fault}
-use Rattle.h2_conn.specs.Held.{Held}
-use Rattle.h2_conn.specs.Stands.{Stands}
+use Rattle.conn_deferral.specs.Deferred.{Dealing, Deals}
 use Rattle.open_tables.specs.Tables.{TableView}
 use Rattle.conn_record.specs.declared.limits.TheConstants.{MOST_BEHIND}
 use Rattle.conn_record.specs.Timeline.{framing_of}
@@ -20,24 +19,25 @@ use Rattle.conn_service.specs.Serves.{Shown, Serves}
 use Rattle.conn_service.specs.Going.{Kept, Going}
 use Rattle.conn_service.specs.Steps.{met, Breaks, IsHeard}
 use Rattle.conn_calls.specs.Calls.{kept_in}
+use Rattle.conn_calls.specs.Dealing.{dealing_of}
 use Rattle.conn_loop.specs.declared.round.Rounded.{Rounded}
 use Rattle.conn_loop.specs.declared.round.Rounded.TheVariants as rounded
 use Rattle.conn_loop.specs.declared.state.State.{State}
 
 module _ (plan : Planning) (passes0 passes : List TableView) (old now : Shown) where
   -- It goes on, and where it is quiet, all is written but for what windows and resets hold up.
-  pub record Stays (conn : Held) (reader : ReaderHeld) (kept : ℕ → Option Kept) (is_quiet : Bool) : Type 0 where
+  pub record Stays (conn : Dealing) (reader : ReaderHeld) (kept : ℕ → Option Kept) (is_quiet : Bool) : Type 0 where
     pub going : Going plan passes0 passes old now conn reader kept
     pub quiet : is_quiet ≡ true → IsWritten going.played
 
   -- A frame may begin here: it is quiet, or much was written since the latest frame came.
-  pub record IsReady (conn : Held) (reader : ReaderHeld) (kept : ℕ → Option Kept) (is_quiet : Bool) : Type 0 where
+  pub record IsReady (conn : Dealing) (reader : ReaderHeld) (kept : ℕ → Option Kept) (is_quiet : Bool) : Type 0 where
     pub going : Going plan passes0 passes old now conn reader kept
     pub quiet : is_quiet ≡ true → IsWritten going.played
     pub ready : IsWritten going.played ⊎ (MOST_BEHIND ≤ (framing_of going.log).since)
 
   -- A piece was read where it may be, and the reader answered so; nothing else moved since.
-  pub record HasHeard (answer : Next) (conn : Held) (reader : ReaderHeld) (kept : ℕ → Option Kept) : Type 0 where
+  pub record HasHeard (answer : Next) (conn : Dealing) (reader : ReaderHeld) (kept : ℕ → Option Kept) : Type 0 where
     pub before : Shown
     pub held : ReaderHeld
     pub going : Going plan passes0 passes old before conn held kept
@@ -49,20 +49,20 @@ module _ (plan : Planning) (passes0 passes : List TableView) (old now : Shown) w
     pub reader_is : reader ≡ held_after (held_with held bytes) answer
 
   -- What was read broke this rule, and the connection stands for the record with it.
-  pub record HasBroken (fault : H2Fault) (conn : Held) : Type 0 where
+  pub record HasBroken (fault : H2Fault) (conn : Dealing) : Type 0 where
     pub answer : Next
-    pub before : Held
+    pub before : Dealing
     pub reader : ReaderHeld
     pub kept : ℕ → Option Kept
     pub read : HasHeard answer before reader kept
     pub breaks : Breaks read.going.played.marked answer fault
-    pub stands : Stands conn (met answer read.going.played.marked)
+    pub deals : Deals conn (met answer read.going.played.marked)
 
   abbrev pub Keeps : State → Type 0
-  Keeps state = Stays state.conn state.reader (kept_in state.calls) state.is_quiet
+  Keeps state = Stays (dealing_of state.conn) state.reader (kept_in state.calls) state.is_quiet
 
   abbrev pub MayRead : State → Type 0
-  MayRead state = IsReady state.conn state.reader (kept_in state.calls) state.is_quiet
+  MayRead state = IsReady (dealing_of state.conn) state.reader (kept_in state.calls) state.is_quiet
 
 -- by cases on what a round answers
 abbrev pub MatchRounded : Rounded → (goes_on : Type 0) → (ended : Ending → Type 0) → Type 0
@@ -87,7 +87,7 @@ ReadsOnce plan passes after now next state behind answer = (passes0 : List Table
 -- A frame came whole, and was heeded.
 abbrev pub Takes : Planning → Frame → (passes after : List TableView) (now next : Shown) (state behind : State) → Rounded → Type 0
 Takes plan frame passes after now next state behind answer = (passes0 : List TableView) (old : Shown)
-    → HasHeard plan passes0 passes old now (answers.Frame frame) state.conn state.reader (kept_in state.calls)
+    → HasHeard plan passes0 passes old now (answers.Frame frame) (dealing_of state.conn) state.reader (kept_in state.calls)
     → MatchRounded answer (Keeps plan passes0 after old next behind) (λ ending. Serves plan passes0 after old next ending)
 
 -- Nothing was there to be read.
@@ -98,9 +98,9 @@ Rests now next state answer = (plan : Planning) (passes0 passes : List TableView
 -- Bytes came that break a rule of framing.
 abbrev pub BreaksOff : H2Fault → (now next : Shown) → State → Ending → Type 0
 BreaksOff fault now next state ending = (plan : Planning) (passes0 passes : List TableView) (old : Shown)
-    → HasHeard plan passes0 passes old now (answers.Fault fault) state.conn state.reader (kept_in state.calls) → Serves plan passes0 passes old next ending
+    → HasHeard plan passes0 passes old now (answers.Fault fault) (dealing_of state.conn) state.reader (kept_in state.calls) → Serves plan passes0 passes old next ending
 
 -- A rule was broken, and the connection ended.
-abbrev pub Leaves : H2Fault → (now next : Shown) → Held → Ending → Type 0
+abbrev pub Leaves : H2Fault → (now next : Shown) → Dealing → Ending → Type 0
 Leaves fault now next conn ending = (plan : Planning) (passes0 passes : List TableView) (old : Shown)
     → HasBroken plan passes0 passes old now fault conn → Serves plan passes0 passes old next ending

@@ -1,13 +1,14 @@
 //! The end of a connection whose client broke a rule: GOAWAY is written, and nothing is read any more.
 
 ghost use Rattle.std.specs.Prelude.{◌≡◌, ℤ, false, List, Option};
+ghost use Rattle.conn_calls.specs.Dealing.{dealing_of};
 ghost use Rattle.conn_loop.specs.Shown.{shown};
 ghost use Rattle.conn_loop.specs.Rounds.{BreaksOff, Leaves};
 
-use crate::settling::{Settled, settle};
+use crate::settling::{Settled, settle_last};
 use crate::state::State;
+use conn_calls::Dealing;
 use conn_service::Ending;
-use h2_conn::Conn;
 use h2_frames::H2Fault;
 use links::Link;
 use outside::Memory;
@@ -19,14 +20,14 @@ pub(crate) fn break_off<R: Wait, L: Link>(
     rt: &R,
     alloc: Global,
     link: &mut L,
-    state: &mut State,
+    state: &mut State<'_>,
     fault: H2Fault,
 ) -> Ending
     requires open { L.closed link.old ≡ false }
     ensures open { L.closed link.new ≡ false }
     ensures breaks { (readings : Option (List ℤ)) → BreaksOff fault (shown L.log L.left L.ended L.faults link.old readings) (shown L.log L.left L.ended L.faults link.new readings) state.old result }
 {
-    match state.conn.fault(alloc, fault) {
+    match state.conn.break_off(alloc, fault) {
         Ok(()) => leave(rt, alloc, link, &mut state.conn, &mut state.output, fault),
         Err(Memory) => Ending::Memory,
     }
@@ -37,16 +38,16 @@ pub(crate) fn leave<R: Wait, L: Link>(
     rt: &R,
     alloc: Global,
     link: &mut L,
-    conn: &mut Conn,
+    conn: &mut Dealing<'_>,
     output: &mut Vec<u8>,
     fault: H2Fault,
 ) -> Ending
     requires open { L.closed link.old ≡ false }
     ensures open { L.closed link.new ≡ false }
-    ensures leaves { (readings : Option (List ℤ)) → Leaves fault (shown L.log L.left L.ended L.faults link.old readings) (shown L.log L.left L.ended L.faults link.new readings) conn.old result }
+    ensures leaves { (readings : Option (List ℤ)) → Leaves fault (shown L.log L.left L.ended L.faults link.old readings) (shown L.log L.left L.ended L.faults link.new readings) (dealing_of conn.old) result }
 {
     for _ in rt.forever() {
-        match settle(rt, alloc, link, conn, output) {
+        match settle_last(rt, alloc, link, &mut conn.conn, output) {
             Settled::Quiet => {
                 return Ending::Goaway {
                     code: fault.code,

@@ -23,15 +23,15 @@ use std::alloc::Global;
 use std::sync::Wait;
 
 /// Reads once, where a frame may begin, and answers what came.
-pub(crate) fn read_once<R: Wait, L: Link, C: Clock, G: Gate>(
-    rt: &R,
+pub(crate) fn read_once<'t, R: Wait, L: Link, C: Clock, G: Gate>(
+    rt: &'t R,
     alloc: Global,
-    tables: &Tables,
+    tables: &'t Tables,
     passes: Passes,
     link: &mut L,
     clock: &mut C,
     gated: &mut Gated<'_, G>,
-    state: &mut State,
+    state: &mut State<'t>,
 ) -> (Passes, Rounded)
     requires theirs { AreTheirs tables.now passes }
     requires open { L.closed link.old ≡ false }
@@ -60,15 +60,15 @@ pub(crate) fn read_once<R: Wait, L: Link, C: Clock, G: Gate>(
 }
 
 // A frame came whole.
-fn take_frame<R: Wait, L: Link, C: Clock, G: Gate>(
-    rt: &R,
+fn take_frame<'t, R: Wait, L: Link, C: Clock, G: Gate>(
+    rt: &'t R,
     alloc: Global,
-    tables: &Tables,
+    tables: &'t Tables,
     passes: Passes,
     link: &mut L,
     clock: &mut C,
     gated: &mut Gated<'_, G>,
-    state: &mut State,
+    state: &mut State<'t>,
     frame: Frame,
 ) -> (Passes, Rounded)
     requires frame { IsFrame frame }
@@ -103,7 +103,7 @@ fn take_frame<R: Wait, L: Link, C: Clock, G: Gate>(
 }
 
 // No byte is there yet. The link waits where all is written.
-fn rest<L: Link>(link: &mut L, state: &State) -> Rounded
+fn rest<L: Link>(link: &mut L, state: &State<'_>) -> Rounded
     requires open { L.closed link.old ≡ false }
     requires ready { L.blocked link.old ≡ false }
     ensures open { L.closed link.new ≡ false }
@@ -119,7 +119,7 @@ fn rest<L: Link>(link: &mut L, state: &State) -> Rounded
 }
 
 // No byte will come. The connection ends where all is written.
-fn at_end(state: &State) -> Rounded
+fn at_end(state: &State<'_>) -> Rounded
     ensures ends { (now : Shown) → now.ended ≡ true → IsSpent now.left → Rests now now state.now result }
 {
     if !state.is_quiet {

@@ -26,15 +26,15 @@ pub(crate) enum Rounded {
 }
 
 /// Writes what is due, once, unless all is written; then reads once, and answers what came.
-pub(crate) fn round<R: Wait, L: Link, C: Clock, G: Gate>(
-    rt: &R,
+pub(crate) fn round<'t, R: Wait, L: Link, C: Clock, G: Gate>(
+    rt: &'t R,
     alloc: Global,
-    tables: &Tables,
+    tables: &'t Tables,
     passes: Passes,
     link: &mut L,
     clock: &mut C,
     gated: &mut Gated<'_, G>,
-    state: &mut State,
+    state: &mut State<'t>,
 ) -> (Passes, Rounded)
     requires theirs { AreTheirs tables.now passes }
     requires open { L.closed link.old ≡ false }
@@ -50,7 +50,12 @@ pub(crate) fn round<R: Wait, L: Link, C: Clock, G: Gate>(
 }
 
 // Writes what is due, unless all is written.
-fn settle_once<R: Wait, L: Link>(rt: &R, alloc: Global, link: &mut L, state: &mut State) -> Rounded
+fn settle_once<R: Wait, L: Link>(
+    rt: &R,
+    alloc: Global,
+    link: &mut L,
+    state: &mut State<'_>,
+) -> Rounded
     requires open { L.closed link.old ≡ false }
     ensures open { L.closed link.new ≡ false }
     ensures reader { state.new.reader ≡ state.old.reader }
@@ -59,7 +64,14 @@ fn settle_once<R: Wait, L: Link>(rt: &R, alloc: Global, link: &mut L, state: &mu
     if state.is_quiet {
         return Rounded::GoesOn;
     }
-    match settle(rt, alloc, link, &mut state.conn, &mut state.output) {
+    match settle(
+        rt,
+        alloc,
+        link,
+        &state.hand,
+        &mut state.conn,
+        &mut state.output,
+    ) {
         Settled::Quiet => {
             state.is_quiet = true;
             Rounded::GoesOn

@@ -19,10 +19,10 @@ use std::sync::Wait;
 ///
 /// It reads the client's frames one by one, answers what they ask over the tables, and writes what is due. `gate` is
 /// passed at each request of the connection, whose number for it is `connection`.
-pub fn serve_connection<R: Wait, L: Link, C: Clock, G: Gate>(
-    rt: &R,
+pub fn serve_connection<'t, R: Wait, L: Link, C: Clock, G: Gate>(
+    rt: &'t R,
     alloc: Global,
-    tables: &Tables,
+    tables: &'t Tables,
     mut passes: Passes,
     link: &mut L,
     clock: &mut C,

@@ -1,5 +1,5 @@
 -- Where no other pass acts, each table's history is the one that its pass has seen.
-use Rattle.std.proofs.Common.{◌≡◌, ◌⊎◌, inl, inr, ℕ, zero, suc, ℤ, Bool, true, List, [], ◌∷◌, ◌++◌, map, set, Option, Some, None, refl, sym, ap, ◌∙◌, subst, append-nil}
+use Rattle.std.proofs.Common.{◌≡◌, ◌⊎◌, inl, inr, ℕ, zero, suc, true, List, [], ◌∷◌, ◌++◌, map, set, Some, refl, sym, ap, ◌∙◌, subst, append-nil}
 use Rattle.std.specs.Prelude.{slice_get}
 use Rattle.table_model.specs.History.{History}
 use Rattle.turn_table.specs.Turn.{with_entry}
@@ -9,8 +9,8 @@ use Rattle.conn_requests.specs.Ends.{lost_answer}
 use Rattle.conn_requests.specs.Decided.{Answered}
 use Rattle.open_tables.specs.Tables.{TableView}
 use Rattle.open_tables.specs.Plans.{Plan, Fixed, At, TurnFor, Gets, GetsAt, Loses, LosesAt, caller_in}
-use Rattle.conn_service.specs.Served.{Planning, plan_of, AnswersOne, Served}
-use Rattle.conn_service.specs.Computed.{AreAlone, numbers_of, histories_of, ComputesAt, ComputesOne, Computes}
+use Rattle.conn_service.specs.Served.{Planning, plan_of, Served}
+use Rattle.conn_service.specs.Computed.{AreAlone, numbers_of, histories_of, ComputesOne, Computes}
 
 -- ---- one element of a list put in another's place
 

@@ -1,5 +1,5 @@
 -- A client breaks a rule, and GOAWAY is written.
-use Rattle.std.proofs.Common.{◌≡◌, inl, ℕ, List, [], ◌∷◌, ◌++◌, map, length, fold, Option, Some, None, refl, sym, ap, ◌∙◌, subst, append-nil, append_assoc}
+use Rattle.std.proofs.Common.{◌≡◌, inl, ℕ, List, [], ◌∷◌, ◌++◌, map, fold, Option, Some, None, refl, sym, ap, ◌∙◌, subst, append-nil, append_assoc}
 use Rattle.std.specs.List.{flat_map, concat, AllByRecursion}
 use Rattle.links.specs.Told.{more, GoesOn}
 use Rattle.links.specs.Link.{Moved, Read, Wrote}
@@ -14,15 +14,15 @@ use Rattle.h2_frames.specs.declared.reader.Next.TheVariants as answers
 use Rattle.h2_record.specs.Record.{Record, In, Out, Broken}
 use Rattle.h2_record.specs.Faults.{first_fault_of, fault_by}
 use Rattle.h2_record.specs.Control.{control_of, written_control_of}
-use Rattle.h2_record.specs.Events.{events_of, events_behind, fault_event}
+use Rattle.h2_record.specs.Events.{events_behind}
 use Rattle.h2_record.specs.Texts.{given_text}
 use Rattle.h2_record.specs.Written.{EachWasDue}
-use Rattle.h2_conn.specs.Held.{Held}
+use Rattle.conn_deferral.specs.Deferred.{Dealing}
 use Rattle.open_tables.specs.Tables.{TableView}
 use Rattle.conn_record.specs.Timeline.{Framing, framing_of, timeline_of, unframed, came}
 use Rattle.conn_record.specs.Places.{HoldsFrom}
 use Rattle.conn_record.specs.Written.{with_outs, AreDue}
-use Rattle.conn_record.specs.Sending.{IsOwn, IsSendable}
+use Rattle.conn_record.specs.Sending.{IsSendable}
 use Rattle.conn_record.proofs.Sending.{all-are-sent, parts-are-sent}
 use Rattle.conn_record.proofs.Fronts.{due-goes-on}
 use Rattle.conn_record.proofs.Own.{own-stays, own-is-sent}
@@ -96,7 +96,7 @@ stops-outs : (r : Record) (frames : List Frame) → StopsAtFault r → StopsAtFa
 stops-outs r [] stops = stops
 stops-outs r (frame ∷ frames) stops = stops-outs (Out frame ∷ r) frames stops
 
-module _ (plan : Planning) (passes0 passes : List TableView) (old now : Shown) (conn : Held) (reader : ReaderHeld) (kept : ℕ → Option Kept) (g : Going plan passes0 passes old now conn reader kept) (next : Shown) (bytes : List ℕ) (answer : Next) (heard : IsHeard plan passes0 passes old now conn reader kept g bytes answer) where
+module _ (plan : Planning) (passes0 passes : List TableView) (old now : Shown) (conn : Dealing) (reader : ReaderHeld) (kept : ℕ → Option Kept) (g : Going plan passes0 passes old now conn reader kept) (next : Shown) (bytes : List ℕ) (answer : Next) (heard : IsHeard plan passes0 passes old now conn reader kept g bytes answer) where
   pub goaway-ends : (fault : H2Fault) (frames : List Frame) (pieces : List (List ℕ)) → Breaks g.played.marked answer fault → AreDue (met answer g.played.marked) frames → AllByRecursion IsSendable frames
       → concat pieces ≡ flat_map spelling frames → Moves now next (Read bytes ∷ map Wrote pieces) → next.faults ≡ now.faults
       → written_control_of (with_outs (met answer g.played.marked) frames) ≡ control_of (with_outs (met answer g.played.marked) frames)

@@ -1,26 +1,26 @@
 -- How the loop's invariant begins, and what it gives where the client's bytes end.
-use Rattle.std.proofs.Common.{◌≡◌, inl, ℕ, ℤ, ◌==◌, ◌<◌, ◌≤◌, Bool, true, List, [], ◌∷◌, ◌++◌, map, length, Option, Some, None, refl, sym, ap, ◌∙◌, subst, append-nil}
+use Rattle.std.proofs.Common.{◌≡◌, ◌⊎◌, inl, inr, ℕ, ◌==◌, ◌<◌, ◌≤◌, true, List, [], ◌∷◌, ◌++◌, map, length, Option, Some, None, refl, sym, ap, ◌∙◌, subst, append-nil}
 use Rattle.std.specs.Option.{option_or}
 use Rattle.std.proofs.lemmas.List.Elements.{All-nil}
-use Rattle.links.specs.Link.{Moved, IsSpent}
+use Rattle.links.specs.Link.{IsSpent}
 use Rattle.links.proofs.ToldLemmas.{more-nil, GoesOn-nil}
 use Rattle.h2_frames.specs.Held.{Held as ReaderHeld}
 use Rattle.h2_frames.specs.Reading.{need_of}
-use Rattle.h2_frames.specs.Run.{nothing_held}
 use Rattle.h2_frames.specs.declared.fault.H2Fault.{H2Fault}
 use Rattle.h2_record.specs.Record.{Record, In, Out, Given, Whole, Broken}
 use Rattle.h2_record.specs.Faults.{first_fault_of, fault_by}
-use Rattle.h2_record.specs.Texts.{given_text}
-use Rattle.h2_record.specs.Quiet.{NoneFits}
-use Rattle.h2_conn.specs.Held.{Held}
-use Rattle.h2_conn.specs.Stands.{Stands}
+use Rattle.h2_record.specs.Texts.{Token, Fields, Octet, given_text, written_text}
 use Rattle.open_tables.specs.Tables.{TableView}
 use Rattle.conn_record.specs.declared.limits.TheConstants.{LEAST_ROOM}
 use Rattle.conn_record.specs.Timeline.{framing_of, timeline_of, unframed}
 use Rattle.conn_record.specs.Places.{HoldsFrom}
 use Rattle.conn_record.specs.Marks.{unmarked}
 use Rattle.conn_record.proofs.Marks.{timelines-are-unmarked, timelines-are-spelled}
-use Rattle.conn_record.proofs.Quiet.{rest-is-quiet}
+use Rattle.conn_record.specs.Quiet.{IsSettled}
+use Rattle.conn_deferral.specs.Deferred.{Dealing}
+use Rattle.conn_deferral.specs.Resting.{IsHeldBack, DealsAll}
+use Rattle.conn_deferral.proofs.Dealing.{dealing-begins}
+use Rattle.conn_deferral.proofs.Rest.{rests-where-blocked}
 use Rattle.conn_requests.specs.Decided.{Answered, Played, play, item_of}
 use Rattle.conn_requests.specs.Spelled.{spelling_on}
 use Rattle.conn_requests.specs.Laws.{frames_in}
@@ -28,10 +28,10 @@ use Rattle.conn_requests.proofs.PlayedLemmas.{play-played}
 use Rattle.conn_service.specs.declared.ending.Ending.{Ending}
 use Rattle.conn_service.specs.declared.ending.Ending.TheVariants as ending
 use Rattle.conn_service.specs.Served.{Planning}
-use Rattle.conn_service.specs.Quiet.{IsAnswered, IsWritten, IsSilent, SilentAt, ReadyAt}
+use Rattle.conn_service.specs.Quiet.{IsWritten, reads_on, IsHeldAtEnd, SilentAt, ReadyAt}
 use Rattle.conn_service.specs.Ends.{Ends, EndCause, IsOver, IsAsked, StopsAtFault}
 use Rattle.conn_service.specs.Serves.{IsInTime, Shown, Serves}
-use Rattle.conn_service.specs.Going.{Kept, kept_of, Going, resumed}
+use Rattle.conn_service.specs.Going.{Kept, EndsInTrailers, Going, resumed}
 use Rattle.conn_service.specs.Laws.{GoingBegins}
 use Rattle.conn_service.proofs.OrderLemmas.{due-in-order}
 
@@ -43,7 +43,7 @@ nothing_played later = refl
 
 pub going-begins : GoingBegins
 unfolding framing_of play
-going-begins plan passes now conn kept stands none = record {
+going-begins plan passes now conn kept stands empty none = record {
   log = [];
   played = play [] [];
   moved = sym (more-nil now.log);
@@ -51,7 +51,8 @@ going-begins plan passes now conn kept stands none = record {
   plays = nothing_played;
   held = refl;
   whole = refl;
-  stands = stands;
+  deals = dealing-begins conn stands empty;
+  left = λ id. inl (empty id);
   calls = none;
   sound = refl;
   answered = refl;
@@ -88,7 +89,31 @@ sound-stops (Given stream part ∷ r) sound = sound-stops r sound
 sound-stops (Whole ∷ r) sound = sound-stops r sound
 sound-stops (Broken fault ∷ r) sound = earlier_none (first_fault_of r) (Some fault) sound
 
-module _ (plan : Planning) (passes0 passes : List TableView) (old now : Shown) (conn : Held) (reader : ReaderHeld) (kept : ℕ → Option Kept) (g : Going plan passes0 passes old now conn reader kept) where
+-- ---- what is left waits at its trailers, or is held up
+
+module _ (p : Played) (id : ℕ) (left : List Token) where
+  held-by : (bytes : List ℕ) (block : List ℕ) → left ≡ map Octet bytes ++ Fields true block ∷ [] → reads_on id p.used ≡ true → IsHeldBack p.marked id left (spelling_on id p.used)
+      → IsSettled p.marked id (spelling_on id p.used) ⊎ ((reads_on id p.used ≡ true) × IsHeldAtEnd p.marked id (spelling_on id p.used))
+  held-by [] block is reads held = inr (reads, record { block = block; next = ap (λ l. written_text p.marked id ++ l) (sym is) ∙ held.rest; window = held.window })
+  held-by (byte ∷ bytes) block is reads held = inl (inr (inr (record {
+    octet = byte;
+    behind = map Octet bytes ++ Fields true block ∷ [];
+    next = ap (λ l. written_text p.marked id ++ l) (sym is) ∙ held.rest;
+    window = held.window;
+  })))
+
+  left-by : (left ≡ []) ⊎ ((reads_on id p.used ≡ true) × EndsInTrailers left) → IsHeldBack p.marked id left (spelling_on id p.used)
+      → IsSettled p.marked id (spelling_on id p.used) ⊎ ((reads_on id p.used ≡ true) × IsHeldAtEnd p.marked id (spelling_on id p.used))
+  left-by (inl none) held = absurd (let some = held.some in cc)
+  left-by (inr (reads, ends)) held = held-by ends.bytes ends.block ends.is reads held
+
+  written-by : (left ≡ []) ⊎ ((reads_on id p.used ≡ true) × EndsInTrailers left) → given_text p.marked id ≡ spelling_on id p.used
+      → IsSettled p.marked id (given_text p.marked id) ⊎ IsHeldBack p.marked id left (given_text p.marked id)
+      → IsSettled p.marked id (spelling_on id p.used) ⊎ ((reads_on id p.used ≡ true) × IsHeldAtEnd p.marked id (spelling_on id p.used))
+  written-by shape given (inl settled) = inl (subst (IsSettled p.marked id) given settled)
+  written-by shape given (inr held) = left-by shape (subst (IsHeldBack p.marked id left) given held)
+
+module _ (plan : Planning) (passes0 passes : List TableView) (old now : Shown) (conn : Dealing) (reader : ReaderHeld) (kept : ℕ → Option Kept) (g : Going plan passes0 passes old now conn reader kept) where
   -- no answer follows
   pub plays_now : play g.played.used (timeline_of g.log) ≡ resumed g.played []
   plays_now = ap (λ xs. play xs (timeline_of g.log)) (sym (append-nil g.played.used)) ∙ g.plays []
@@ -108,9 +133,14 @@ module _ (plan : Planning) (passes0 passes : List TableView) (old now : Shown) (
       let P : Played → Type 0 = λ p. map item_of p.used ≡ p.decided → (id : ℕ) → given_text p.marked id ≡ spelling_on id p.used in
       subst P plays_now (play-played g.played.used (timeline_of g.log)).spelled g.answered
 
-  pub quiet-at-rest : (room : ℕ) → LEAST_ROOM ≤ room → NoneFits g.played.marked room → IsWritten g.played
-  quiet-at-rest room wide none =
-      rest-is-quiet g.played.marked (λ id. spelling_on id g.played.used) room g.sound (timelines-are-spelled g.log g.played.marked frames_now) g.was_due g.was_open given_now wide none
+  pub quiet-at-rest : (room : ℕ) → LEAST_ROOM ≤ room → DealsAll conn room g.played.marked → IsWritten g.played
+  quiet-at-rest room wide all =
+      let rest = rests-where-blocked conn g.played.marked room all g.sound (timelines-are-spelled g.log g.played.marked frames_now) g.was_open wide in
+      record {
+        control = rest.control;
+        resets = rest.resets;
+        texts = λ id. written-by g.played id (conn.left id) (g.left id) (given_now id) (rest.texts id);
+      }
 
   -- ---- the end
 

@@ -1,7 +1,6 @@
 -- Where each frame was due, what was written is in order.
-use Rattle.std.proofs.Common.{◌≡◌, ℕ, Bool, List, [], ◌∷◌, ◌++◌, refl, sym, ap, ◌∙◌, subst}
-use Rattle.h2_frames.specs.declared.frame.Frame.{Frame}
-use Rattle.h2_record.specs.Record.{Record, Out}
+use Rattle.std.proofs.Common.{◌≡◌, ℕ, List, sym, subst}
+use Rattle.h2_record.specs.Record.{Record}
 use Rattle.h2_record.specs.Texts.{Token, given_text, written_text}
 use Rattle.h2_record.specs.Written.{EachWasDue, IsFront}
 use Rattle.conn_record.proofs.Fronts.{texts-are-fronts, control-is-front, resets-are-fronts, data-within-windows}

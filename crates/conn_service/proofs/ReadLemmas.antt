@@ -1,20 +1,19 @@
 -- The loop's invariant over a read of no more than the reader asks for.
-use Rattle.std.proofs.Common.{◌≡◌, ◌⊎◌, inl, inr, ℕ, ℤ, ◌≤◌, Bool, true, false, List, [], ◌∷◌, ◌++◌, map, length, Option, Some, None, refl, sym, ap, ◌∙◌, subst, append_assoc}
+use Rattle.std.proofs.Common.{◌≡◌, inl, ℕ, ◌≤◌, true, false, List, [], ◌∷◌, ◌++◌, map, length, Option, refl, sym, ap, ◌∙◌, subst, append_assoc}
 use Rattle.std.specs.Prelude.{All}
 use Rattle.std.proofs.lemmas.List.Elements.{All-append}
 use Rattle.links.specs.Told.{more, GoesOn}
-use Rattle.links.specs.Link.{Moved, Read, Wrote, Waited}
+use Rattle.links.specs.Link.{Moved, Read}
 use Rattle.links.proofs.ToldLemmas.{more-more, GoesOn-then}
 use Rattle.h2_frames.specs.Held.{Held as ReaderHeld}
-use Rattle.h2_frames.specs.Reading.{next_of, need_of, held_with, held_after}
+use Rattle.h2_frames.specs.Reading.{need_of, held_with, held_after}
 use Rattle.h2_frames.specs.declared.frame.Frame.{Frame}
 use Rattle.h2_frames.specs.declared.reader.Next.{Next}
 use Rattle.h2_frames.specs.declared.reader.Next.TheVariants as answers
 use Rattle.h2_record.specs.Record.{Record, In}
-use Rattle.h2_conn.specs.Held.{Held}
+use Rattle.conn_deferral.specs.Deferred.{Dealing}
 use Rattle.open_tables.specs.Tables.{TableView}
-use Rattle.conn_record.specs.declared.limits.TheConstants.{MOST_BEHIND}
-use Rattle.conn_record.specs.Timeline.{Framing, framing_of, timeline_of, framed_from, unframed, is_broken, came, fed}
+use Rattle.conn_record.specs.Timeline.{Framing, framing_of, timeline_of, unframed, is_broken, came, fed}
 use Rattle.conn_record.specs.Places.{HoldsFrom, HoldsAtBytes, begins_frame}
 use Rattle.conn_record.proofs.Unfinished.{holds-unfinished}
 use Rattle.conn_record.proofs.Marks.{sound-is-unbroken}
@@ -26,7 +25,7 @@ use Rattle.conn_requests.specs.Decided.{Answered, Played, play, take_frame}
 use Rattle.conn_requests.specs.Spelled.{spelling_on}
 use Rattle.conn_service.specs.declared.ending.Ending.TheVariants as ending
 use Rattle.conn_service.specs.Served.{Planning, Served}
-use Rattle.conn_service.specs.Quiet.{IsWritten, IsReady, SilentAt, ReadyAt}
+use Rattle.conn_service.specs.Quiet.{IsReady, SilentAt, ReadyAt}
 use Rattle.conn_service.specs.Serves.{reading_of, IsInTime, Shown, Serves}
 use Rattle.conn_service.specs.Going.{Kept, Going, resumed}
 use Rattle.conn_service.specs.Steps.{Moves, Heeded, HeededInPart, IsHeard}
@@ -51,7 +50,7 @@ readings-then : (xs ys : List Answered) → map reading_of (xs ++ ys) ≡ map re
 readings-then [] ys = refl
 readings-then (x ∷ xs) ys = ap (λ l. reading_of x ∷ l) (readings-then xs ys)
 
-module _ (plan : Planning) (passes0 passes : List TableView) (old now : Shown) (conn : Held) (reader : ReaderHeld) (kept : ℕ → Option Kept) (g : Going plan passes0 passes old now conn reader kept) (next : Shown) (bytes : List ℕ) where
+module _ (plan : Planning) (passes0 passes : List TableView) (old now : Shown) (conn : Dealing) (reader : ReaderHeld) (kept : ℕ → Option Kept) (g : Going plan passes0 passes old now conn reader kept) (next : Shown) (bytes : List ℕ) where
   unbroken : is_broken (timeline_of g.log) ≡ false
   unbroken = ap is_broken (sym (frames_now plan passes0 passes old now conn reader kept g)) ∙ sound-is-unbroken g.played.marked g.sound
 
@@ -90,7 +89,8 @@ module _ (plan : Planning) (passes0 passes : List TableView) (old now : Shown) (
           plays = λ later. ap (λ s. play (g.played.used ++ later) s.frames) now_is ∙ g.plays later;
           held = ap (λ s. s.inflow) now_is;
           whole = ap (λ s. s.outflow) now_is ∙ g.whole;
-          stands = g.stands;
+          deals = g.deals;
+          left = g.left;
           calls = g.calls;
           sound = g.sound;
           answered = g.answered;
@@ -105,7 +105,7 @@ module _ (plan : Planning) (passes0 passes : List TableView) (old now : Shown) (
         refl,
       )
 
-  module _ (frame : Frame) (after : List TableView) (behind : Held) (keeps : ℕ → Option Kept) (heard : IsHeard plan passes0 passes old now conn reader kept g bytes (answers.Frame frame)) (heeded : Heeded plan frame g.played passes after behind keeps now.readings next.readings) where
+  module _ (frame : Frame) (after : List TableView) (behind : Dealing) (keeps : ℕ → Option Kept) (heard : IsHeard plan passes0 passes old now conn reader kept g bytes (answers.Frame frame)) (heeded : Heeded plan frame g.played passes after behind keeps now.readings next.readings) where
     -- the answers so far, and those to come
     order : (later : List Answered) → heeded.behind.used ++ later ≡ g.played.used ++ (heeded.answers ++ later)
     order later = ap (λ l. l ++ later) heeded.used ∙ append_assoc g.played.used heeded.answers later
@@ -140,7 +140,8 @@ module _ (plan : Planning) (passes0 passes : List TableView) (old now : Shown) (
             plays = plays_frame;
             held = ap (λ s. s.inflow) now_is;
             whole = ap (λ s. s.outflow) now_is ∙ g.whole;
-            stands = heeded.stands;
+            deals = heeded.deals;
+            left = heeded.left;
             calls = heeded.calls;
             sound = heeded.sound;
             answered = heeded.answered;

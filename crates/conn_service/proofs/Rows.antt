@@ -1,24 +1,21 @@
 -- Rows worked out by hand: a client that sends nothing, one that stops inside the preface, and one that breaks it.
-use Rattle.std.proofs.Common.{◌≡◌, inl, ℕ, ℤ, ◌<◌, Bool, true, false, List, [], ◌∷◌, ◌++◌, Option, Some, None, refl, arith}
+use Rattle.std.proofs.Common.{inl, ℕ, Bool, true, false, List, [], ◌∷◌, Some, None, refl, arith}
 use Rattle.std.proofs.lemmas.List.Elements.{All-nil}
-use Rattle.links.specs.Link.{Moved, Read, Wrote, Waited}
+use Rattle.links.specs.Link.{Moved, Read, Wrote}
 use Rattle.h2_frames.specs.declared.frame.Frame.TheVariants as frames
 use Rattle.h2_frames.specs.Fault.{fault_in}
 use Rattle.h2_frames.specs.Frame.{frame_of}
 use Rattle.h2_frames.specs.Header.{header_of}
-use Rattle.h2_frames.specs.Reading.{preface, frame_next, frame_need}
+use Rattle.h2_frames.specs.Reading.{preface, frame_next}
 use Rattle.h2_frames.specs.Spelling.{spelling}
-use Rattle.h2_record.specs.Record.{Record, In, Out, Broken}
+use Rattle.h2_record.specs.Record.{Record, Out, Broken}
 use Rattle.h2_record.specs.Control.{own_settings}
 use Rattle.h2_record.specs.Resets.{reset_behind}
-use Rattle.h2_record.specs.Texts.{Token}
 use Rattle.h2_record.specs.Written.{EachWasDue}
 use Rattle.open_tables.specs.Tables.{TableView}
 use Rattle.conn_record.specs.Timeline.{framing_of, byte_in, byte_out}
-use Rattle.conn_record.specs.Quiet.{IsQuiet}
 use Rattle.conn_requests.specs.Decided.{Played, play}
 use Rattle.conn_requests.specs.Spelled.{spelling_on}
-use Rattle.conn_service.specs.declared.ending.Ending.{Ending}
 use Rattle.conn_service.specs.declared.ending.Ending.TheVariants as ending
 use Rattle.conn_service.specs.Served.{Planning}
 use Rattle.conn_service.specs.Quiet.{IsWritten}
@@ -39,13 +36,13 @@ shown log left ended = record { log = Some log; left = Some left; ended = ended;
 due : EachWasDue settings_gone
 due = (record { behind = []; next = refl }, tt)
 
-quiet : (text_of : ℕ → List Token) → ((id : ℕ) → [] ≡ text_of id) → IsQuiet settings_gone text_of
-unfolding reset_behind
-quiet text_of none = record { control = refl; resets = λ id. refl; texts = λ id. inl (none id) }
+quiet : IsWritten (record { marked = settings_gone; calls = λ id. None; decided = []; used = []; later = [] })
+unfolding reset_behind spelling_on
+quiet = record { control = refl; resets = λ id. refl; texts = λ id. inl (inl refl) }
 
 -- a server that doesn't write its SETTINGS isn't quiet
-unwritten : (text_of : ℕ → List Token) → IsQuiet [] text_of → ⊥
-unwritten text_of q = let h = q.control in absurd cc
+unwritten : (p : Played) → IsWritten (record p { marked = [] }) → ⊥
+unwritten p q = let h = q.control in absurd cc
 
 -- a client that sends nothing is served by SETTINGS, and no pass changes
 sends_nothing : (plan : Planning) (passes : List TableView) → Serves plan passes passes (shown [] [] false) (shown (Wrote own ∷ []) [] true) ending.Done
@@ -67,7 +64,7 @@ sends_nothing plan passes = record {
   in_order = due-in-order settings_gone (λ id. []) due (λ id. refl);
   places = tt;
   stops = tt;
-  ends = (refl, record { met = refl; spent = refl; sound = refl; silent = record { answered = refl; written = quiet (λ id. []) (λ id. refl); whole = refl } });
+  ends = (refl, record { met = refl; spent = refl; sound = refl; silent = record { answered = refl; written = quiet; whole = refl } });
   cause = refl;
 }
 
@@ -89,9 +86,9 @@ stops_inside plan passes = record {
   unfinished = inl refl;
   was_due = due;
   in_order = due-in-order settings_gone (λ id. []) due (λ id. refl);
-  places = ((λ first. record { answered = refl; written = inl (quiet (λ id. []) (λ id. refl)); whole = refl }, ((λ first. absurd cc), ((λ first. absurd cc), tt))), tt);
+  places = ((λ first. record { answered = refl; written = inl quiet; whole = refl }, ((λ first. absurd cc), ((λ first. absurd cc), tt))), tt);
   stops = tt;
-  ends = (omega arith, refl, refl, record { met = refl; spent = refl; sound = refl; silent = record { answered = refl; written = quiet (λ id. []) (λ id. refl); whole = refl } });
+  ends = (omega arith, refl, refl, record { met = refl; spent = refl; sound = refl; silent = record { answered = refl; written = quiet; whole = refl } });
   cause = refl;
 }
 
@@ -124,7 +121,7 @@ breaks_preface plan passes = record {
   unfinished = inl refl;
   was_due = goaway_due;
   in_order = due-in-order goaway_gone (λ id. []) goaway_due (λ id. refl);
-  places = ((λ first. record { answered = refl; written = inl (quiet (λ id. []) (λ id. refl)); whole = refl }, ((λ first. absurd cc), ((λ first. absurd cc), tt))), tt);
+  places = ((λ first. record { answered = refl; written = inl quiet; whole = refl }, ((λ first. absurd cc), ((λ first. absurd cc), tt))), tt);
   stops = refl;
   ends = (refl, refl, refl);
   cause = refl;

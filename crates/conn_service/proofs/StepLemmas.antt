@@ -1,25 +1,23 @@
 -- The loop's invariant over writes and waits, and a fault of the link.
-use Rattle.std.proofs.Common.{◌≡◌, ◌⊎◌, inl, inr, ℕ, zero, suc, ◌+◌, ◌<◌, ◌≤◌, Bool, true, List, [], ◌∷◌, ◌++◌, map, length, Option, Some, None, refl, sym, ap, ◌∙◌, subst, append-nil, arith}
-use Rattle.std.specs.List.{flat_map, concat, AllByRecursion}
+use Rattle.std.proofs.Common.{◌≡◌, inl, inr, ℕ, ◌+◌, ◌≤◌, List, [], ◌∷◌, ◌++◌, map, length, Option, None, refl, sym, ap, ◌∙◌, subst, append-nil, arith}
+use Rattle.std.specs.List.{flat_map, concat}
 use Rattle.outside.specs.Faults.{Rose}
 use Rattle.links.specs.Told.{more, GoesOn}
-use Rattle.links.specs.Link.{Moved, Read, Wrote, Waited}
+use Rattle.links.specs.Link.{Moved, Wrote, Waited}
 use Rattle.links.proofs.ToldLemmas.{more-more}
 use Rattle.h2_frames.specs.Held.{Held as ReaderHeld}
 use Rattle.h2_frames.specs.Spelling.{spelling}
 use Rattle.h2_frames.specs.declared.frame.Frame.{Frame}
-use Rattle.h2_record.specs.Record.{Record, In, Out, Given, Whole, Broken}
+use Rattle.h2_record.specs.Record.{Record, Out}
 use Rattle.h2_record.specs.Faults.{first_fault_of}
-use Rattle.h2_record.specs.Due.{IsDue}
 use Rattle.h2_record.specs.Texts.{given_text}
 use Rattle.h2_record.specs.Written.{EachWasDue, IsFront}
-use Rattle.h2_conn.specs.Held.{Held}
-use Rattle.h2_conn.specs.Stands.{Stands}
+use Rattle.conn_deferral.specs.Deferred.{Dealing, Deals}
 use Rattle.open_tables.specs.Tables.{TableView}
 use Rattle.conn_record.specs.Timeline.{Framing, framing_of, timeline_of, framed_from, unframed, moved}
 use Rattle.conn_record.specs.Places.{HoldsFrom}
 use Rattle.conn_record.specs.Written.{with_outs, AreDue}
-use Rattle.conn_record.specs.Sending.{IsOwn, IsSendable, IsWithinFirst, Sent}
+use Rattle.conn_record.specs.Sending.{IsWithinFirst}
 use Rattle.conn_record.specs.Giving.{EachWasGiven}
 use Rattle.conn_record.proofs.Framed.{continued}
 use Rattle.conn_record.proofs.Places.{places-go-on}
@@ -31,9 +29,9 @@ use Rattle.conn_requests.specs.Spelled.{spelling_on}
 use Rattle.conn_service.specs.declared.ending.Ending.TheVariants as ending
 use Rattle.conn_service.specs.Served.{Planning}
 use Rattle.conn_service.specs.Quiet.{IsWritten, IsSilent, SilentAt, ReadyAt}
-use Rattle.conn_service.specs.Ends.{EndsInDue, StopsAtFault}
+use Rattle.conn_service.specs.Ends.{EndsInDue}
 use Rattle.conn_service.specs.Serves.{reading_of, Shown, Serves}
-use Rattle.conn_service.specs.Going.{Kept, Going, resumed}
+use Rattle.conn_service.specs.Going.{Kept, IsLeftOf, Going, resumed}
 use Rattle.conn_service.specs.Steps.{Moves, AreSent, gone}
 use Rattle.conn_service.proofs.OrderLemmas.{due-in-order}
 use Rattle.conn_service.proofs.GoingLemmas.{sound-stops, given_now}
@@ -97,7 +95,7 @@ unfinished r outflow left [] due is within = inl within
 unfinished r outflow left (frame ∷ others) due is within =
     inr (frame, due.0, front_of outflow left (spelling frame) (flat_map spelling others) is (omega (arith, within)))
 
-module _ (plan : Planning) (passes0 passes : List TableView) (old now : Shown) (conn : Held) (reader : ReaderHeld) (kept : ℕ → Option Kept) (g : Going plan passes0 passes old now conn reader kept) (next : Shown) where
+module _ (plan : Planning) (passes0 passes : List TableView) (old now : Shown) (conn : Dealing) (reader : ReaderHeld) (kept : ℕ → Option Kept) (g : Going plan passes0 passes old now conn reader kept) (next : Shown) where
   moves_on : (entries : List Moved) → Moves now next entries → next.log ≡ more old.log (g.log ++ entries)
   moves_on entries moves = moves.log ∙ ap (λ l. more l entries) g.moved ∙ more-more old.log g.log entries
 
@@ -118,7 +116,8 @@ module _ (plan : Planning) (passes0 passes : List TableView) (old now : Shown) (
           plays = λ later. ap (λ s. play (g.played.used ++ later) s.frames) same ∙ g.plays later;
           held = ap (λ s. s.inflow) same ∙ g.held;
           whole = ap (λ s. s.outflow) same ∙ g.whole;
-          stands = g.stands;
+          deals = g.deals;
+          left = g.left;
           calls = g.calls;
           sound = g.sound;
           answered = g.answered;
@@ -134,9 +133,9 @@ module _ (plan : Planning) (passes0 passes : List TableView) (old now : Shown) (
       )
 
   module _ (frames : List Frame) (pieces : List (List ℕ)) (sent : AreSent g.played frames) (moves : Moves now next (map Wrote pieces)) where
-    pub writes-go-on : (behind : Held) → concat pieces ≡ flat_map spelling frames → next.faults ≡ now.faults → Stands behind (with_outs g.played.marked frames)
+    pub writes-go-on : (behind : Dealing) → concat pieces ≡ flat_map spelling frames → next.faults ≡ now.faults → Deals behind (with_outs g.played.marked frames) → IsLeftOf g.played behind.left
         → (after : Going plan passes0 passes old next behind reader kept) × (after.played ≡ gone g.played frames) × ((framing_of after.log).since ≡ (framing_of g.log).since + length (concat pieces))
-    writes-go-on behind joined count stands =
+    writes-go-on behind joined count deals left =
         let now_is = all-are-sent g.log frames pieces g.whole sent.sendable joined in (
           record {
             log = g.log ++ map Wrote pieces;
@@ -146,7 +145,8 @@ module _ (plan : Planning) (passes0 passes : List TableView) (old now : Shown) (
             plays = λ later. ap (λ s. play (g.played.used ++ later) s.frames) now_is ∙ play-outs (g.played.used ++ later) frames (timeline_of g.log) (resumed g.played later) (g.plays later);
             held = ap (λ s. s.inflow) now_is ∙ g.held;
             whole = ap (λ s. s.outflow) now_is;
-            stands = stands;
+            deals = deals;
+            left = left;
             calls = g.calls;
             sound = sound-outs g.played.marked frames g.sound;
             answered = g.answered;

@@ -7,7 +7,7 @@ use Rattle.conn_requests.specs.Ends.{lost_answer}
 use Rattle.conn_requests.specs.Decided.{Answered}
 use Rattle.open_tables.specs.Tables.{TableView}
 use Rattle.open_tables.specs.Plans.{Plan, Fixed, At, TurnFor, Turned}
-use Rattle.conn_service.specs.Served.{Planning, plan_of, Served}
+use Rattle.conn_service.specs.Served.{Planning, plan_of}
 
 -- no other pass acts on the tables
 abbrev pub AreAlone : List TableView → Type 0

@@ -1,5 +1,5 @@
 -- Laws of one connection.
-use Rattle.std.specs.Prelude.{◌≡◌, ℕ, ℤ, ◌==◌, ◌<◌, ◌≤◌, true, List, [], map, length, Option, None}
+use Rattle.std.specs.Prelude.{◌≡◌, ℕ, ◌==◌, ◌<◌, ◌≤◌, true, List, [], map, length, Option, None}
 use Rattle.links.specs.Link.{IsSpent}
 use Rattle.h2_frames.specs.Held.{Held as ReaderHeld}
 use Rattle.h2_frames.specs.Run.{nothing_held}
@@ -7,14 +7,13 @@ use Rattle.h2_frames.specs.Reading.{need_of}
 use Rattle.h2_record.specs.Record.{Record}
 use Rattle.h2_record.specs.Texts.{Token, given_text}
 use Rattle.h2_record.specs.Written.{EachWasDue}
-use Rattle.h2_record.specs.Quiet.{NoneFits}
-use Rattle.h2_conn.specs.Held.{Held}
 use Rattle.h2_conn.specs.Stands.{Stands}
 use Rattle.open_tables.specs.Tables.{TableView, OpenTable, first_passes}
 use Rattle.conn_record.specs.declared.limits.TheConstants.{LEAST_ROOM}
-use Rattle.conn_requests.specs.Decided.{Answered, Played, play}
+use Rattle.conn_deferral.specs.Deferred.{Dealing}
+use Rattle.conn_deferral.specs.Resting.{DealsAll}
+use Rattle.conn_requests.specs.Decided.{Answered, play}
 use Rattle.conn_requests.specs.Spelled.{spelling_on}
-use Rattle.conn_service.specs.declared.ending.Ending.{Ending}
 use Rattle.conn_service.specs.declared.ending.Ending.TheVariants as ending
 use Rattle.conn_service.specs.Served.{Planning, Served, EachGoesOn}
 use Rattle.conn_service.specs.Computed.{AreAlone, numbers_of, histories_of, Computes}
@@ -44,11 +43,11 @@ abbrev pub AnswersAreInOrder : Type 0
 AnswersAreInOrder = (answers : List Answered) (frames : Record) → IsAnswered (play answers frames) → EachWasDue (play answers frames).marked
     → IsInOrder (play answers frames).marked (λ id. spelling_on id (play answers frames).used)
 
-module _ (plan : Planning) (passes0 passes : List TableView) (old now : Shown) (conn : Held) (reader : ReaderHeld) (kept : ℕ → Option Kept) where
-  -- where no frame that is due fits a room that holds each control frame, reset and header block, all is written but
-  -- what windows and resets hold up
+module _ (plan : Planning) (passes0 passes : List TableView) (old now : Shown) (conn : Dealing) (reader : ReaderHeld) (kept : ℕ → Option Kept) where
+  -- where no frame that is due fits a room that holds each control frame, reset and header block, and no part that is left
+  -- may be given, all is written but what windows and resets hold up
   abbrev pub IsQuietAtRest : Type 0
-  IsQuietAtRest = (g : Going plan passes0 passes old now conn reader kept) (room : ℕ) → LEAST_ROOM ≤ room → NoneFits g.played.marked room → IsWritten g.played
+  IsQuietAtRest = (g : Going plan passes0 passes old now conn reader kept) (room : ℕ) → LEAST_ROOM ≤ room → DealsAll conn room g.played.marked → IsWritten g.played
 
   -- where the client's bytes end at the boundary of a frame
   abbrev pub IsDone : Type 0
@@ -66,21 +65,21 @@ module _ (plan : Planning) (passes0 passes : List TableView) (old now : Shown) (
 
 -- A new connection, reader and map of calls stand for the empty log.
 abbrev pub GoingBegins : Type 0
-GoingBegins = (plan : Planning) (passes : List TableView) (now : Shown) (conn : Held) (kept : ℕ → Option Kept)
-    → Stands conn [] → ((id : ℕ) → kept id ≡ None) → Going plan passes passes now now conn nothing_held kept
+GoingBegins = (plan : Planning) (passes : List TableView) (now : Shown) (conn : Dealing) (kept : ℕ → Option Kept)
+    → Stands conn.conn [] → ((id : ℕ) → conn.left id ≡ []) → ((id : ℕ) → kept id ≡ None) → Going plan passes passes now now conn nothing_held kept
 
 abbrev pub RestIsQuiet : Type 0
-RestIsQuiet = (plan : Planning) (passes0 passes : List TableView) (old now : Shown) (conn : Held) (reader : ReaderHeld) (kept : ℕ → Option Kept)
+RestIsQuiet = (plan : Planning) (passes0 passes : List TableView) (old now : Shown) (conn : Dealing) (reader : ReaderHeld) (kept : ℕ → Option Kept)
     → IsQuietAtRest plan passes0 passes old now conn reader kept
 
 abbrev pub EndIsDone : Type 0
-EndIsDone = (plan : Planning) (passes0 passes : List TableView) (old now : Shown) (conn : Held) (reader : ReaderHeld) (kept : ℕ → Option Kept)
+EndIsDone = (plan : Planning) (passes0 passes : List TableView) (old now : Shown) (conn : Dealing) (reader : ReaderHeld) (kept : ℕ → Option Kept)
     → IsDone plan passes0 passes old now conn reader kept
 
 abbrev pub EndIsCut : Type 0
-EndIsCut = (plan : Planning) (passes0 passes : List TableView) (old now : Shown) (conn : Held) (reader : ReaderHeld) (kept : ℕ → Option Kept)
+EndIsCut = (plan : Planning) (passes0 passes : List TableView) (old now : Shown) (conn : Dealing) (reader : ReaderHeld) (kept : ℕ → Option Kept)
     → IsCut plan passes0 passes old now conn reader kept
 
 abbrev pub EndIsMemory : Type 0
-EndIsMemory = (plan : Planning) (passes0 passes : List TableView) (old now : Shown) (conn : Held) (reader : ReaderHeld) (kept : ℕ → Option Kept)
+EndIsMemory = (plan : Planning) (passes0 passes : List TableView) (old now : Shown) (conn : Dealing) (reader : ReaderHeld) (kept : ℕ → Option Kept)
     → IsOutOfMemory plan passes0 passes old now conn reader kept

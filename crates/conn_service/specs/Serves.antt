@@ -1,5 +1,5 @@
 -- One connection, from bytes to bytes.
-use Rattle.std.specs.Prelude.{◌≡◌, ◌⊎◌, ℕ, ℤ, ◌≤◌, pos, ◌≤ℤ◌, Bool, List, [], ◌∷◌, ◌++◌, map, length, All, Option}
+use Rattle.std.specs.Prelude.{◌≡◌, ℕ, ℤ, pos, ◌≤ℤ◌, Bool, List, ◌∷◌, ◌++◌, map, length, All, Option}
 use Rattle.links.specs.Told.{more, GoesOn}
 use Rattle.links.specs.Link.{Moved}
 use Rattle.links.specs.declared.clocks.TheConstants.{LATEST_READING}

@@ -17,8 +17,7 @@ use Rattle.h2_record.specs.Written.{EachWasDue, IsFront}
 use Rattle.h2_record.specs.Texts.{given_text}
 use Rattle.h2_frames.specs.declared.fault.H2Fault.{H2Fault}
 use Rattle.h2_frames.specs.declared.frame.Frame.{Frame}
-use Rattle.h2_conn.specs.Held.{Held}
-use Rattle.h2_conn.specs.Stands.{Stands}
+use Rattle.conn_deferral.specs.Deferred.{Dealing, Deals}
 use Rattle.open_tables.specs.Tables.{TableView}
 use Rattle.conn_record.specs.declared.limits.TheConstants.{MOST_BEHIND}
 use Rattle.conn_record.specs.Timeline.{framing_of}
@@ -33,7 +32,7 @@ use Rattle.conn_service.specs.Served.{Planning, Served}
 use Rattle.conn_service.specs.Quiet.{IsAnswered, IsWritten}
 use Rattle.conn_service.specs.Ends.{StopsAtFault}
 use Rattle.conn_service.specs.Serves.{reading_of, IsInTime, Shown, Serves}
-use Rattle.conn_service.specs.Going.{Kept, kept_of, resumed, Going}
+use Rattle.conn_service.specs.Going.{Kept, kept_of, resumed, IsLeftOf, Going}
 
 -- The link moved this, and the clock made no reading.
 pub record Moves (now next : Shown) (entries : List Moved) : Type 0 where
@@ -62,12 +61,13 @@ Breaks r answers.More fault = ⊥
 Breaks r (answers.Fault broken) fault = broken ≡ fault
 
 -- A frame was taken, and all that it decided was answered, whatever answers follow.
-pub record Heeded (plan : Planning) (frame : Frame) (p : Played) (passes after : List TableView) (conn : Held) (kept : ℕ → Option Kept) (readings0 readings : Option (List ℤ)) : Type 0 where
+pub record Heeded (plan : Planning) (frame : Frame) (p : Played) (passes after : List TableView) (conn : Dealing) (kept : ℕ → Option Kept) (readings0 readings : Option (List ℤ)) : Type 0 where
   pub answers : List Answered
   pub behind : Played
   pub takes : (later : List Answered) → take_frame (resumed p (answers ++ later)) frame ≡ resumed behind later
   pub used : behind.used ≡ p.used ++ answers
-  pub stands : Stands conn behind.marked
+  pub deals : Deals conn behind.marked
+  pub left : IsLeftOf behind conn.left
   pub calls : (id : ℕ) → kept id ≡ kept_of behind.used id (behind.calls id)
   pub sound : first_fault_of behind.marked ≡ None
   pub answered : IsAnswered behind
@@ -92,11 +92,11 @@ pub record HeededInPart (plan : Planning) (frame : Frame) (p : Played) (passes a
   pub was_due : EachWasDue behind.marked
   pub stops : StopsAtFault behind.marked
 
-module _ (plan : Planning) (passes0 passes : List TableView) (old now : Shown) (conn : Held) (reader : ReaderHeld) (kept : ℕ → Option Kept) where
-  -- frames were written whole, in any pieces
+module _ (plan : Planning) (passes0 passes : List TableView) (old now : Shown) (conn : Dealing) (reader : ReaderHeld) (kept : ℕ → Option Kept) where
+  -- frames were written whole, in any pieces, and parts that were left were given before and between them
   abbrev pub KeepsOverWrites : Type 0
-  KeepsOverWrites = (g : Going plan passes0 passes old now conn reader kept) (next : Shown) (frames : List Frame) (pieces : List (List ℕ)) (behind : Held)
-      → AreSent g.played frames → concat pieces ≡ flat_map spelling frames → Moves now next (map Wrote pieces) → next.faults ≡ now.faults → Stands behind (with_outs g.played.marked frames)
+  KeepsOverWrites = (g : Going plan passes0 passes old now conn reader kept) (next : Shown) (frames : List Frame) (pieces : List (List ℕ)) (behind : Dealing)
+      → AreSent g.played frames → concat pieces ≡ flat_map spelling frames → Moves now next (map Wrote pieces) → next.faults ≡ now.faults → Deals behind (with_outs g.played.marked frames) → IsLeftOf g.played behind.left
       → (after : Going plan passes0 passes old next behind reader kept) × (after.played ≡ gone g.played frames) × ((framing_of after.log).since ≡ (framing_of g.log).since + length (concat pieces))
 
   -- the link waited where the connection was quiet
@@ -123,7 +123,7 @@ module _ (plan : Planning) (passes0 passes : List TableView) (old now : Shown) (
 
   -- a frame is whole, and was heeded
   abbrev pub KeepsOverFrames : Type 0
-  KeepsOverFrames = (g : Going plan passes0 passes old now conn reader kept) (next : Shown) (bytes : List ℕ) (frame : Frame) (after : List TableView) (behind : Held) (keeps : ℕ → Option Kept)
+  KeepsOverFrames = (g : Going plan passes0 passes old now conn reader kept) (next : Shown) (bytes : List ℕ) (frame : Frame) (after : List TableView) (behind : Dealing) (keeps : ℕ → Option Kept)
       → IsHeard g bytes (answers.Frame frame) → next.log ≡ more now.log (Read bytes ∷ []) → next.faults ≡ now.faults
       → (heeded : Heeded plan frame g.played passes after behind keeps now.readings next.readings)
       → (over : Going plan passes0 after old next behind (held_after (held_with reader bytes) (answers.Frame frame)) keeps) × (over.played ≡ heeded.behind)
@@ -150,33 +150,33 @@ module _ (plan : Planning) (passes0 passes : List TableView) (old now : Shown) (
       → HeededInPart plan frame g.played passes after now.readings next.readings → Serves plan passes0 after old next ending.Memory
 
 abbrev pub WritesGoOn : Type 0
-WritesGoOn = (plan : Planning) (passes0 passes : List TableView) (old now : Shown) (conn : Held) (reader : ReaderHeld) (kept : ℕ → Option Kept)
+WritesGoOn = (plan : Planning) (passes0 passes : List TableView) (old now : Shown) (conn : Dealing) (reader : ReaderHeld) (kept : ℕ → Option Kept)
     → KeepsOverWrites plan passes0 passes old now conn reader kept
 
 abbrev pub WaitsGoOn : Type 0
-WaitsGoOn = (plan : Planning) (passes0 passes : List TableView) (old now : Shown) (conn : Held) (reader : ReaderHeld) (kept : ℕ → Option Kept)
+WaitsGoOn = (plan : Planning) (passes0 passes : List TableView) (old now : Shown) (conn : Dealing) (reader : ReaderHeld) (kept : ℕ → Option Kept)
     → KeepsOverWaits plan passes0 passes old now conn reader kept
 
 abbrev pub FaultsEnd : Type 0
-FaultsEnd = (plan : Planning) (passes0 passes : List TableView) (old now : Shown) (conn : Held) (reader : ReaderHeld) (kept : ℕ → Option Kept)
+FaultsEnd = (plan : Planning) (passes0 passes : List TableView) (old now : Shown) (conn : Dealing) (reader : ReaderHeld) (kept : ℕ → Option Kept)
     → EndsByFault plan passes0 passes old now conn reader kept
 
 abbrev pub ReadsGoOn : Type 0
-ReadsGoOn = (plan : Planning) (passes0 passes : List TableView) (old now : Shown) (conn : Held) (reader : ReaderHeld) (kept : ℕ → Option Kept)
+ReadsGoOn = (plan : Planning) (passes0 passes : List TableView) (old now : Shown) (conn : Dealing) (reader : ReaderHeld) (kept : ℕ → Option Kept)
     → KeepsOverReads plan passes0 passes old now conn reader kept
 
 abbrev pub FramesGoOn : Type 0
-FramesGoOn = (plan : Planning) (passes0 passes : List TableView) (old now : Shown) (conn : Held) (reader : ReaderHeld) (kept : ℕ → Option Kept)
+FramesGoOn = (plan : Planning) (passes0 passes : List TableView) (old now : Shown) (conn : Dealing) (reader : ReaderHeld) (kept : ℕ → Option Kept)
     → KeepsOverFrames plan passes0 passes old now conn reader kept
 
 abbrev pub GoawaysEnd : Type 0
-GoawaysEnd = (plan : Planning) (passes0 passes : List TableView) (old now : Shown) (conn : Held) (reader : ReaderHeld) (kept : ℕ → Option Kept)
+GoawaysEnd = (plan : Planning) (passes0 passes : List TableView) (old now : Shown) (conn : Dealing) (reader : ReaderHeld) (kept : ℕ → Option Kept)
     → EndsByGoaway plan passes0 passes old now conn reader kept
 
 abbrev pub PartsEnd : Type 0
-PartsEnd = (plan : Planning) (passes0 passes : List TableView) (old now : Shown) (conn : Held) (reader : ReaderHeld) (kept : ℕ → Option Kept)
+PartsEnd = (plan : Planning) (passes0 passes : List TableView) (old now : Shown) (conn : Dealing) (reader : ReaderHeld) (kept : ℕ → Option Kept)
     → EndsBeforeGoaway plan passes0 passes old now conn reader kept
 
 abbrev pub FramesEnd : Type 0
-FramesEnd = (plan : Planning) (passes0 passes : List TableView) (old now : Shown) (conn : Held) (reader : ReaderHeld) (kept : ℕ → Option Kept)
+FramesEnd = (plan : Planning) (passes0 passes : List TableView) (old now : Shown) (conn : Dealing) (reader : ReaderHeld) (kept : ℕ → Option Kept)
     → EndsInFrame plan passes0 passes old now conn reader kept

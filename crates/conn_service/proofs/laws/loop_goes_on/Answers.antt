@@ -5,8 +5,8 @@ use Rattle.conn_service.proofs.GoawayLemmas.{goaway-ends, parts-end}
 use Rattle.conn_service.proofs.laws.loop_goes_on.Goals as goal
 
 pub returns-clause-writes : goal.returns-clause-writes
-returns-clause-writes c plan passes0 passes old now conn reader kept g next frames pieces behind sent joined moves count stands =
-    writes-go-on plan passes0 passes old now conn reader kept g next frames pieces sent moves behind joined count stands
+returns-clause-writes c plan passes0 passes old now conn reader kept g next frames pieces behind sent joined moves count deals left =
+    writes-go-on plan passes0 passes old now conn reader kept g next frames pieces sent moves behind joined count deals left
 
 pub returns-clause-waits : goal.returns-clause-waits
 returns-clause-waits c = waits-go-on

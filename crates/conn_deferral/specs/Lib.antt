@@ -1,0 +1,3 @@
+pub mod Deferred
+pub mod Resting
+pub mod Laws
