@@ -10,6 +10,7 @@ use client_calls::{ClientCall, client_bytes, may_send};
 use grpc_meta::Method;
 use links::{MemLink, OpenGate};
 use outside::Blob;
+use std::alloc::{AllocError, Global};
 use std::process::Abort;
 use std::test::Fail;
 
@@ -48,15 +49,13 @@ fn appending<R: Abort + AllocGlobal>(rt: &R) -> Result<Vec<u8>, Fail> {
     Ok(client_bytes(alloc, calls.as_slice())?.into_vec())
 }
 
-/// The links of all clients.
-fn crowd<R: Abort + AllocGlobal>(rt: &R) -> Result<Vec<MemLink>, Fail>
+/// The links of all clients, each of which sends these bytes.
+fn crowd(alloc: Global, bytes: &[u8]) -> Result<Vec<MemLink>, AllocError>
     ensures { IfOk result (λ links. list_all is_new links.items ≡ true) }
 {
-    let alloc = rt.alloc();
-    let bytes = appending(rt)?;
     let mut links = Vec::new(alloc);
     for _ in 0..CLIENTS {
-        let input = bytes.as_slice().to_vec(alloc)?;
+        let input = bytes.to_vec(alloc)?;
         links.push(MemLink::new(alloc, input, Vec::new(alloc), Vec::new(alloc)))?;
     }
     Ok(links)
@@ -64,7 +63,9 @@ fn crowd<R: Abort + AllocGlobal>(rt: &R) -> Result<Vec<MemLink>, Fail>
 
 #[test]
 fn each_row_of_a_crowd_is_appended_once(rt: HostRuntime) -> Result<(), Fail> {
-    let (status, door, sink) = answer(&rt, "32", crowd(&rt)?, None, &OpenGate)?;
+    let bytes = appending(&rt)?;
+    let links = crowd(rt.alloc(), bytes.as_slice())?;
+    let (status, door, sink) = answer(&rt, "32", links, None, &OpenGate)?;
     assert_eq!(rt; status, 0);
     assert_eq!(rt; sink.taken(), REPORT);
     assert_eq!(rt; door.handed().len(), 32);
