@@ -1,44 +1,13 @@
 //! The program `bqstored`: BigQuery's bulk interface over typed tables in memory.
 //!
-//! `pipe --table SPEC` serves one whole connection over standard input and output: gRPC over HTTP/2, the services of
-//! BigQuery's storage API over new tables. `serve` does so for the connections of a socket, several at once over one
-//! set of tables, and then writes a line for each table. `body` reads the body of one AppendRows call from standard
-//! input, keeps the rows by offset and writes the framed replies to standard output; with `--table SPEC` the rows are
-//! decoded by the writer schema of the call and kept by the table's columns. `drill` runs a large input over one table,
-//! by several threads at once, and writes five lines that tell what the table then holds. [`run`] is the program without
-//! the process around it; its contract says what is read, written and answered, and which status comes when.
+//! Its commands stand in the crate `program`; here is the process around them: its words, its standard input and output,
+//! its sockets and its clock.
 #![tactic(auto)]
 
-mod bodies;
-#[cfg(test)]
-mod client_tests;
-mod commands;
-#[cfg(test)]
-mod crowd_tests;
-#[cfg(test)]
-mod drill_tests;
-mod drills;
-mod messages;
-mod nested;
-#[cfg(test)]
-mod pipe_tests;
-mod pipes;
-mod replies;
-mod requests;
-#[cfg(test)]
-mod serve_tests;
-mod serves;
-mod tables;
-#[cfg(test)]
-mod tests;
-mod typed_table;
-#[cfg(test)]
-mod typed_tests;
-
-use commands::{USAGE, WANT_OF_MEMORY, run};
 use links::{OpenGate, StdLink, SystemClock};
 use net_edge::TcpDoor;
 use outside::{StdSink, StdSource};
+use program::{USAGE, WANT_OF_MEMORY, run};
 use std::io::ErrorKind;
 use std::process::ExitCode;
 use std::{env, io};

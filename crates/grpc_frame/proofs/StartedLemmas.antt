@@ -11,7 +11,7 @@ use Rattle.grpc_frame.specs.Frame.{prefix_of, frame}
 use Rattle.grpc_frame.specs.Part.{part_of, part_behind_length}
 use Rattle.grpc_frame.specs.Messages.{IsInside}
 use Rattle.grpc_frame.proofs.MessagesLemmas.{part_of-frame, IsInside-more, IsInside-behind}
-use Rattle.grpc_frame.specs.Started.{started_bytes, missing_in, IsStarted, Filled}
+use Rattle.grpc_frame.specs.Started.{started_bytes, missing_in, IsStarted, IsSame, Filled}
 
 -- a piece, cut in two
 cut_piece : (taken : ℕ) (piece : List ℕ) → take taken piece ++ take (length piece - taken) (drop taken piece) ≡ piece
@@ -30,9 +30,17 @@ regroup_whole p s f r b none = grind (arith, common_steps)
 nothing_added : (limit taken : ℕ) (message : Started) (rest piece : List ℕ) → IsStarted limit (Some message) rest → taken ≡ min (missing_in (Some message)) (length piece) → (rest ≡ []) ⊎ (take taken piece ≡ [])
 nothing_added limit taken message rest piece held is =
     elim (cases_lt (vec_len message.bytes) message.len) [
-      | inl short ↦ inl (held.3 short)
+      | inl short ↦ inl (held.2 short)
       | inr whole ↦ inr (let none : taken ≡ 0 = omega (arith, is, whole) in rw none refl)
     ]
+
+-- a message that got room is filled as the one before
+pub filled-same : (started roomy after : Option Started) (bytes : List ℕ) → IsSame started roomy → Filled roomy after bytes → Filled started after bytes
+filled-same None roomy after bytes same filled = subst (λ (s : Option Started). Filled s after bytes) same filled
+filled-same (Some message) None after bytes same filled = absurd same
+filled-same (Some message) (Some roomy) None bytes same filled = absurd filled
+filled-same (Some message) (Some roomy) (Some after) bytes same filled =
+    (filled.0 ∙ same.0, filled.1 ∙ ap (λ l. l ++ bytes) same.1)
 
 -- what stands for the bytes after a piece
 pub started-fed : (limit taken : ℕ) (started after : Option Started) (rest rest' piece : List ℕ) → IsStarted limit started rest → taken ≡ min (missing_in started) (length piece) → Filled started after (take taken piece) → rest' ≡ rest ++ take (length piece - taken) (drop taken piece) → started_bytes after ++ rest' ≡ (started_bytes started ++ rest) ++ piece
@@ -73,7 +81,7 @@ part_of-short limit None rest held small kept some is = absurd (omega (arith, so
 part_of-short limit (Some message) rest held small kept some is =
     let short : vec_len message.bytes < message.len = omega (arith, some) in
     let all : held ≡ prefix_of message.len ++ message.bytes.items =
-    sym is ∙ ap (λ l. (prefix_of message.len ++ message.bytes.items) ++ l) (kept.3 short) ∙ append-nil (prefix_of message.len ++ message.bytes.items)
+    sym is ∙ ap (λ l. (prefix_of message.len ++ message.bytes.items) ++ l) (kept.2 short) ∙ append-nil (prefix_of message.len ++ message.bytes.items)
     in
     sym (ap (part_of limit) all ∙ part_of-started limit message.len message.bytes.items small kept.0 (omega (arith, short, message.bytes.ok.0)))
 

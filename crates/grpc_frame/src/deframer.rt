@@ -5,7 +5,7 @@ ghost use Rattle.grpc_frame.specs.Messages.{Takes, IsInside};
 use crate::frame::PREFIX_LEN;
 use crate::front::{Front, ends_inside, front_of};
 use crate::part::Part;
-use crate::started::{Started, fill, missing, start};
+use crate::started::{Started, fill, make_room, missing, start};
 use outside::{Blob, Memory};
 use std::alloc::Global;
 use std::marker::Model;
@@ -14,9 +14,9 @@ use std::marker::Model;
 ///
 /// Contracts see the limit and the bytes that are held: those fed and not yet given as a message.
 ///
-/// A message that lies whole in what was fed is copied once more as it is given. Of one that comes
-/// in more pieces, room for the whole is asked for once its length has come; it is filled in place
-/// and given without a copy. No other byte is moved more often than once for each byte given.
+/// A message that lies whole in what was fed is copied once more as it is given. One that comes in
+/// more pieces is gathered in a place of its own, whose room grows with what has come, and is given
+/// without a copy. No other byte is moved more often than once for each byte given.
 #[derive(Drop)]
 pub struct Deframer {
     limit: u32,
@@ -63,6 +63,7 @@ impl Deframer {
         ensures unchanged { OnErr result (self.new.bytes ≡ self.old.bytes) }
     {
         let taken = missing(&self.started).min(bytes.len());
+        make_room(&mut self.started, taken)?;
         append(&mut self.bytes, &mut self.given, &bytes[taken..])?;
         fill(&mut self.started, &bytes[..taken]);
         Ok(())

@@ -1,5 +1,5 @@
-ghost use Rattle.std.specs.Prelude.{◌≡◌, ◌+◌, ◌≤◌, length, vec_len, vec_capacity, IfOk};
-ghost use Rattle.grpc_frame.specs.Started.{missing_in, HasRoom, Filled, Starts};
+ghost use Rattle.std.specs.Prelude.{◌≡◌, ◌≤◌, length, IfOk, OnOk};
+ghost use Rattle.grpc_frame.specs.Started.{missing_in, HasRoom, IsSame, Filled, Starts};
 
 use outside::Memory;
 use std::alloc::Global;
@@ -9,7 +9,7 @@ use std::alloc::Global;
 pub(crate) struct Started {
     /// Its length, in bytes.
     pub(crate) len: u32,
-    /// What of it has come. It has room for the whole message, so it never grows.
+    /// What of it has come. Its room grows with that, so a length alone takes no memory.
     pub(crate) bytes: Vec<u8>,
 }
 
@@ -18,11 +18,9 @@ pub(crate) fn start(alloc: Global, len: u32, bytes: &[u8]) -> Result<Started, Me
     requires { length bytes.now ≤ len }
     ensures { IfOk result (Starts len bytes.now) }
 {
-    let mut message = Vec::with_capacity(alloc, len as usize)?;
-    message.extend_from_slice(bytes)?;
     Ok(Started {
         len,
-        bytes: message,
+        bytes: Vec::from_slice(alloc, bytes)?,
     })
 }
 
@@ -36,7 +34,18 @@ pub(crate) fn missing(started: &Option<Started>) -> usize
     }
 }
 
-/// Adds `bytes` to the message.
+/// Makes room for `count` more bytes of the message, which stays as it is.
+pub(crate) fn make_room(started: &mut Option<Started>, count: usize) -> Result<(), Memory>
+    ensures same { IsSame started.old started.new }
+    ensures room { OnOk result (HasRoom started.new count) }
+{
+    if let Some(message) = started {
+        message.bytes.reserve(count)?;
+    }
+    Ok(())
+}
+
+/// Adds `bytes` to the message, which has room for them.
 pub(crate) fn fill(started: &mut Option<Started>, bytes: &[u8])
     requires { HasRoom started.old (length bytes.now) }
     ensures { Filled started.old started.new bytes.now }

@@ -1,5 +1,5 @@
 -- A frame that goes is due, and the connection stands for the record with it.
-use Rattle.std.proofs.Common.{◌≡◌, ℕ, ◌+◌, ◌<◌, ◌≤◌, Bool, true, false, List, [], ◌∷◌, length, Option, None, Some, IsSome, refl, sym, ap, subst, ◌∙◌, arith, true≢false, pos, ◌-ℤ◌}
+use Rattle.std.proofs.Common.{◌≡◌, ℕ, ◌+◌, ◌<◌, ◌≤◌, Bool, true, false, List, ◌∷◌, length, Option, None, Some, IsSome, refl, sym, ap, subst, ◌∙◌, arith, true≢false, pos, ◌-ℤ◌}
 use Rattle.h2_frames.specs.declared.frame.Frame.{Frame}
 use Rattle.h2_frames.specs.declared.frame.Frame.TheVariants as frames
 use Rattle.h2_frames.specs.declared.fault.H2Fault.{H2Fault}

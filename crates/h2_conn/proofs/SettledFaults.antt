@@ -1,14 +1,12 @@
 -- A settled connection tests the early rules of its record, and the late ones are left.
-use Rattle.std.proofs.Common.{◌≡◌, true, false, Option, None, Some, refl, sym, ap, ◌∙◌}
+use Rattle.std.proofs.Common.{◌≡◌, None, Some, sym, ap, ◌∙◌}
 use Rattle.std.specs.Option.{option_or}
 use Rattle.h2_frames.specs.declared.frame.Frame.{Frame}
-use Rattle.h2_frames.specs.declared.frame.Frame.TheVariants as frames
 use Rattle.h2_frames.specs.declared.fault.H2Fault.{H2Fault}
 use Rattle.h2_record.specs.Record.{Record, has_begun}
 use Rattle.h2_record.specs.Ids.{last_of}
 use Rattle.h2_record.specs.Blocks.{open_of}
 use Rattle.h2_record.specs.Faults.{fault_by}
-use Rattle.h2_record.specs.Rules.{broken}
 use Rattle.h2_conn.specs.Held.{Held}
 use Rattle.h2_record.specs.Early.{early_fault, late_fault}
 use Rattle.h2_conn.specs.Taking.{early_of, Settled}

@@ -1,15 +1,13 @@
 -- A frame that came on one stream leaves all others as they were.
-use Rattle.std.proofs.Common.{◌≡◌, ℕ, ◌+◌, ◌<◌, ◌≤◌, ◌==◌, Bool, true, false, not, ◌&&◌, ◌||◌, List, [], ◌∷◌, ◌++◌, Option, None, Some, pos, ◌-ℤ◌, refl, sym, ap, subst, ◌∙◌, arith, if◌then◌else◌}
+use Rattle.std.proofs.Common.{◌≡◌, ℕ, ◌<◌, ◌≤◌, ◌==◌, Bool, false, List, ◌∷◌, Option, sym, ap, subst, ◌∙◌, arith}
 use Rattle.std.specs.Map.{keys_of}
 use Rattle.h2_frames.specs.declared.frame.Frame.{Frame}
-use Rattle.h2_frames.specs.declared.frame.Frame.TheVariants as frames
 use Rattle.h2_streams.specs.Book.{Book, find}
-use Rattle.h2_answers.specs.Replies.{drop_bytes}
 use Rattle.h2_answers.specs.Waiting.{Waiting, waiting_on}
 use Rattle.h2_record.specs.Record.{Record, In}
 use Rattle.h2_record.specs.Windows.{initial_of}
 use Rattle.h2_record.specs.Ids.{last_of}
-use Rattle.h2_record.specs.Live.{Reset, is_reset, remembered_in}
+use Rattle.h2_record.specs.Live.{Reset, remembered_in}
 use Rattle.h2_record.specs.Resets.{reset_by, with_reset, resets_of, is_live, stream_of, live_of}
 use Rattle.h2_record.specs.Fresh.{is_on, is_spoken}
 use Rattle.h2_conn.specs.Stands.{StreamsStand}

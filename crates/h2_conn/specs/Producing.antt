@@ -7,7 +7,6 @@ use Rattle.h2_flow.specs.Range.{greatest}
 use Rattle.h2_streams.specs.declared.stream.Stream.{Stream}
 use Rattle.h2_streams.specs.Book.{Book, find, with_stream}
 use Rattle.h2_answers.specs.Bounds.{Bounds, bounds_of}
-use Rattle.h2_answers.specs.Waiting.{nothing}
 use Rattle.h2_answers.specs.Due.{IsNextDue}
 use Rattle.h2_record.specs.declared.control.Control.{Control}
 use Rattle.h2_record.specs.declared.control.Control.TheVariants as control

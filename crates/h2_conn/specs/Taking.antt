@@ -1,10 +1,9 @@
 -- The steps between a frame's coming and the connection that has it.
-use Rattle.std.specs.Prelude.{◌≡◌, ℕ, ◌+◌, Bool, true, List, [], ◌∷◌, ◌++◌, map, Option, None, Some, option_to_list}
+use Rattle.std.specs.Prelude.{◌≡◌, ℕ, true, List, [], ◌∷◌, ◌++◌, map, Option, None, Some, option_to_list}
 use Rattle.h2_frames.specs.declared.frame.Frame.{Frame}
 use Rattle.h2_frames.specs.declared.frame.Frame.TheVariants as frames
 use Rattle.h2_frames.specs.declared.pairs.Pair.{Pair}
 use Rattle.h2_frames.specs.declared.fault.H2Fault.{H2Fault}
-use Rattle.h2_record.specs.declared.block.OpenBlock.{OpenBlock}
 use Rattle.h2_record.specs.declared.event.Event.{Event}
 use Rattle.h2_conn.specs.declared.taken.Taken.{Taken}
 use Rattle.h2_conn.specs.declared.taken.Taken.TheVariants as taken
@@ -12,7 +11,7 @@ use Rattle.h2_record.specs.Record.{Record, In}
 use Rattle.h2_record.specs.Ids.{last_of}
 use Rattle.h2_record.specs.Resets.{reset_by, resets_of}
 use Rattle.h2_record.specs.Faults.{fault_by}
-use Rattle.h2_record.specs.Control.{control_of, written_control_of, frame_of}
+use Rattle.h2_record.specs.Control.{written_control_of, frame_of}
 use Rattle.h2_record.specs.Events.{event_by, events_of}
 use Rattle.h2_streams.specs.Book.{without_reset}
 use Rattle.h2_answers.specs.Waiting.{nothing, ChangesOnly}

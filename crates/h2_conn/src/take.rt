@@ -13,7 +13,6 @@ ghost use Rattle.h2_conn.specs.Taking.{Settled, Fails, Follows};
 use crate::conn::Conn;
 use crate::taken::Taken;
 use h2_frames::{Frame, H2Fault};
-use h2_record::limits::MOST_WAITING;
 use h2_record::{Control, Event};
 use outside::Memory;
 use std::alloc::Global;
@@ -95,12 +94,10 @@ impl Conn {
         let Some(owed) = self.owed else {
             return Ok(());
         };
+        let given = self.latest_credit();
         self.owed = None;
-        if self.answers.replies_waiting(owed.stream) < MOST_WAITING {
-            self.control.push_back(Control::Credit {
-                stream: owed.stream,
-                add: owed.bytes,
-            })?;
+        if let Some(credit) = given {
+            self.control.push_back(credit)?;
         } else {
             self.kept.add(owed.stream, owed.bytes)?;
         }

@@ -1,7 +1,6 @@
 -- Each frame is one more of those that went.
-use Rattle.std.proofs.Common.{◌≡◌, Bool, true, length, subst, arith}
-use Rattle.h2_conn.specs.Appended.{Appended}
-use Rattle.h2_conn.specs.Produces.{Goes, ProducesInto}
+use Rattle.std.proofs.Common.{◌≡◌, Bool, length, subst, arith}
+use Rattle.h2_conn.specs.Produces.{ProducesInto}
 use Rattle.h2_conn.proofs.FillSteps.{filling-none, filling-more, filling-sound, taken-rest, taken-some}
 use Rattle.h2_conn.proofs.conn.Conn.fill.Goals as goal
 

@@ -1,5 +1,5 @@
 -- What is kept is the record's.
-use Rattle.std.proofs.Common.{sym, subst, ap, ◌∙◌}
+use Rattle.std.proofs.Common.{sym, subst}
 use Rattle.h2_conn.specs.Held.{Held}
 use Rattle.h2_conn.specs.Stands.{Stands}
 use Rattle.h2_conn.proofs.FollowLemmas.{fault-kept}

@@ -1,5 +1,5 @@
 -- Behind a connection error control frames go alone.
-use Rattle.std.proofs.Common.{List, ℕ, Option, refl, subst}
+use Rattle.std.proofs.Common.{Option, refl, subst}
 use Rattle.h2_record.specs.declared.control.Control.{Control}
 use Rattle.h2_conn.specs.Held.{Held}
 use Rattle.h2_conn.specs.Producing.{first_of, IsTooLong, IsShort}

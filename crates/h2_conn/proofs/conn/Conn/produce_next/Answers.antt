@@ -1,5 +1,5 @@
 -- What goes next is seen to once the credit of the latest frame is.
-use Rattle.std.proofs.Common.{◌≡◌, List, ℕ, None, refl, sym, ap, ◌∙◌}
+use Rattle.std.proofs.Common.{◌≡◌, None, refl, sym, ap, ◌∙◌}
 use Rattle.h2_frames.specs.Spelling.{spelling}
 use Rattle.h2_conn.specs.Held.{Held}
 use Rattle.h2_conn.specs.Parts.{part_frame}
