@@ -1,5 +1,7 @@
 //! Frames by the bytes of RFC 9113 section 6, and those that clients and servers exchange over gRPC.
 
+ghost use Rattle.h2_frames.specs.Spelling.{IsWritable};
+
 use h2_frames::*;
 use outside::{Blob, Memory};
 use std::alloc::{AllocError, Global};
@@ -67,126 +69,98 @@ fn answer(alloc: Global, bytes: &[u8], piece: usize) -> Result<Next, Memory> {
     Ok(Next::More)
 }
 
-/// The answer to `bytes` in pieces of one byte, and of as many as are missing, is `want`.
-fn expect(rt: &impl Abort, alloc: Global, bytes: &[u8], want: &str) -> Result<(), Fail> {
-    for piece in [1, 16_384] {
-        let text = shown(alloc, &answer(alloc, bytes, piece)?)?;
-        assert_eq!(rt; text.as_str(), want, "in pieces of {piece}");
+/// The bytes of a frame, and how the answer to them is shown.
+type Case = (&'static [u8], &'static str);
+
+const FRAMES_OF_A_STREAM: [Case; 8] = [
+    (
+        b"\0\0\x05\0\0\0\0\0\x01hello",
+        "DATA 1 false 5 [104, 101, 108, 108, 111]",
+    ),
+    (
+        b"\0\0\x05\0\x09\x80\0\0\x01\x02hi\0\0",
+        "DATA 1 true 5 [104, 105]",
+    ),
+    (
+        b"\0\0\x02\x01\x04\0\0\0\x01\x20\x88",
+        "HEADERS 1 false true [32, 136]",
+    ),
+    (
+        b"\0\0\x0a\x01\x29\0\0\0\x03\x02\x80\0\0\x01\x0f\x82\x84\0\0",
+        "HEADERS 3 true false [130, 132]",
+    ),
+    (b"\0\0\x05\x02\0\0\0\0\x05\0\0\0\x03\x10", "PRIORITY 5"),
+    (b"\0\0\x04\x03\0\0\0\0\x01\0\0\0\x08", "RST_STREAM 1 8"),
+    (
+        b"\0\0\x01\x09\x04\0\0\0\x01\x82",
+        "CONTINUATION 1 true [130]",
+    ),
+    (b"\0\0\x03\x0a\xff\0\0\0\x09abc", "type 10 9"),
+];
+
+const FRAMES_OF_THE_CONNECTION: [Case; 5] = [
+    (b"\0\0\0\x04\x01\0\0\0\0", "SETTINGS true []"),
+    (
+        b"\0\0\x06\x04\0\0\0\0\0\0\xff\0\0\0\x01",
+        "SETTINGS false [Pair { id: 255, value: 1 }]",
+    ),
+    (
+        b"\0\0\x08\x06\0\0\0\0\0\x01\x02\x03\x04\x05\x06\x07\x08",
+        "PING false [1, 2, 3, 4, 5, 6, 7, 8]",
+    ),
+    (
+        b"\0\0\x0a\x07\0\0\0\0\0\x80\0\0\x07\0\0\0\x02ok",
+        "GOAWAY 7 2",
+    ),
+    (
+        b"\0\0\x04\x08\0\0\0\0\0\x80\x0f\0\x01",
+        "WINDOW_UPDATE 0 983041",
+    ),
+];
+
+const BROKEN_RULES: [Case; 10] = [
+    (b"\0\x40\x01\0\0\0\0\0\x01", "code 6 rule 2"),
+    (b"\0\x40\0\0\0\0\0\0\x01", "more"),
+    (b"\0\0\0\0\0\0\0\0\0", "code 1 rule 3"),
+    (b"\0\0\0\x04\0\0\0\0\x01", "code 1 rule 3"),
+    (
+        b"\0\0\x07\x06\0\0\0\0\0\x01\x02\x03\x04\x05\x06\x07",
+        "code 6 rule 4",
+    ),
+    (
+        b"\0\0\x07\x04\0\0\0\0\0\0\x04\0\0\0\x04\0",
+        "code 6 rule 4",
+    ),
+    (b"\0\0\0\0\x08\0\0\0\x01", "code 6 rule 4"),
+    (b"\0\0\x04\x01\x20\0\0\0\x01\0\0\0\0", "code 6 rule 4"),
+    (b"\0\0\x01\0\x08\0\0\0\x01\x01", "code 1 rule 5"),
+    (b"\0\0\x04\x05\x04\0\0\0\x01\0\0\0\x02", "code 1 rule 6"),
+];
+
+/// Checks each answer to bytes in pieces of one byte, and of as many as are missing.
+fn assert_answers(rt: &impl Abort, alloc: Global, cases: &[Case]) -> Result<(), Memory> {
+    for (bytes, want) in cases {
+        for piece in [1, 16_384] {
+            let text = shown(alloc, &answer(alloc, bytes, piece)?)?;
+            assert_eq!(rt; text.as_str(), *want, "in pieces of {piece}");
+        }
     }
     Ok(())
 }
 
 #[test]
 fn frames_of_a_stream_are_read(rt: HostRuntime) -> Result<(), Fail> {
-    let alloc = rt.alloc();
-    expect(
-        &rt,
-        alloc,
-        b"\0\0\x05\0\0\0\0\0\x01hello",
-        "DATA 1 false 5 [104, 101, 108, 108, 111]",
-    )?;
-    expect(
-        &rt,
-        alloc,
-        b"\0\0\x05\0\x09\x80\0\0\x01\x02hi\0\0",
-        "DATA 1 true 5 [104, 105]",
-    )?;
-    expect(
-        &rt,
-        alloc,
-        b"\0\0\x02\x01\x04\0\0\0\x01\x20\x88",
-        "HEADERS 1 false true [32, 136]",
-    )?;
-    expect(
-        &rt,
-        alloc,
-        b"\0\0\x0a\x01\x29\0\0\0\x03\x02\x80\0\0\x01\x0f\x82\x84\0\0",
-        "HEADERS 3 true false [130, 132]",
-    )?;
-    expect(
-        &rt,
-        alloc,
-        b"\0\0\x05\x02\0\0\0\0\x05\0\0\0\x03\x10",
-        "PRIORITY 5",
-    )?;
-    expect(
-        &rt,
-        alloc,
-        b"\0\0\x04\x03\0\0\0\0\x01\0\0\0\x08",
-        "RST_STREAM 1 8",
-    )?;
-    expect(
-        &rt,
-        alloc,
-        b"\0\0\x01\x09\x04\0\0\0\x01\x82",
-        "CONTINUATION 1 true [130]",
-    )?;
-    expect(&rt, alloc, b"\0\0\x03\x0a\xff\0\0\0\x09abc", "type 10 9")
+    Ok(assert_answers(&rt, rt.alloc(), &FRAMES_OF_A_STREAM)?)
 }
 
 #[test]
 fn frames_of_the_connection_are_read(rt: HostRuntime) -> Result<(), Fail> {
-    let alloc = rt.alloc();
-    expect(&rt, alloc, b"\0\0\0\x04\x01\0\0\0\0", "SETTINGS true []")?;
-    expect(
-        &rt,
-        alloc,
-        b"\0\0\x06\x04\0\0\0\0\0\0\xff\0\0\0\x01",
-        "SETTINGS false [Pair { id: 255, value: 1 }]",
-    )?;
-    expect(
-        &rt,
-        alloc,
-        b"\0\0\x08\x06\0\0\0\0\0\x01\x02\x03\x04\x05\x06\x07\x08",
-        "PING false [1, 2, 3, 4, 5, 6, 7, 8]",
-    )?;
-    expect(
-        &rt,
-        alloc,
-        b"\0\0\x0a\x07\0\0\0\0\0\x80\0\0\x07\0\0\0\x02ok",
-        "GOAWAY 7 2",
-    )?;
-    expect(
-        &rt,
-        alloc,
-        b"\0\0\x04\x08\0\0\0\0\0\x80\x0f\0\x01",
-        "WINDOW_UPDATE 0 983041",
-    )
+    Ok(assert_answers(&rt, rt.alloc(), &FRAMES_OF_THE_CONNECTION)?)
 }
 
 #[test]
 fn a_broken_rule_is_the_answer(rt: HostRuntime) -> Result<(), Fail> {
-    let alloc = rt.alloc();
-    expect(&rt, alloc, b"\0\x40\x01\0\0\0\0\0\x01", "code 6 rule 2")?;
-    expect(&rt, alloc, b"\0\x40\0\0\0\0\0\0\x01", "more")?;
-    expect(&rt, alloc, b"\0\0\0\0\0\0\0\0\0", "code 1 rule 3")?;
-    expect(&rt, alloc, b"\0\0\0\x04\0\0\0\0\x01", "code 1 rule 3")?;
-    expect(
-        &rt,
-        alloc,
-        b"\0\0\x07\x06\0\0\0\0\0\x01\x02\x03\x04\x05\x06\x07",
-        "code 6 rule 4",
-    )?;
-    expect(
-        &rt,
-        alloc,
-        b"\0\0\x07\x04\0\0\0\0\0\0\x04\0\0\0\x04\0",
-        "code 6 rule 4",
-    )?;
-    expect(&rt, alloc, b"\0\0\0\0\x08\0\0\0\x01", "code 6 rule 4")?;
-    expect(
-        &rt,
-        alloc,
-        b"\0\0\x04\x01\x20\0\0\0\x01\0\0\0\0",
-        "code 6 rule 4",
-    )?;
-    expect(&rt, alloc, b"\0\0\x01\0\x08\0\0\0\x01\x01", "code 1 rule 5")?;
-    expect(
-        &rt,
-        alloc,
-        b"\0\0\x04\x05\x04\0\0\0\x01\0\0\0\x02",
-        "code 1 rule 6",
-    )
+    Ok(assert_answers(&rt, rt.alloc(), &BROKEN_RULES)?)
 }
 
 #[test]
@@ -224,103 +198,139 @@ fn a_wrong_byte_of_the_preface_is_a_fault_at_once(rt: HostRuntime) -> Result<(),
     Ok(())
 }
 
+/// Checks that a frame is written as these bytes, behind what was written before.
+fn assert_written(
+    rt: &impl Abort,
+    alloc: Global,
+    frame: &Frame,
+    bytes: &[u8],
+) -> Result<(), Fail>
+    requires { IsWritable frame.now }
+{
+    let mut out = vec![in alloc; b'.']?;
+    write_frame(&mut out, frame)?;
+    assert_eq!(rt; out.as_slice().strip_prefix(b"."), Some(bytes));
+    Ok(())
+}
+
 #[test]
-fn frames_of_the_connection_are_written(rt: HostRuntime) -> Result<(), Fail> {
-    let alloc = rt.alloc();
-    let mut out = Vec::new(alloc);
-    let limits = vec![in alloc;
+fn settings_are_written(rt: HostRuntime) -> Result<(), Fail> {
+    let limits = vec![in rt.alloc();
         Pair { id: 3, value: 100 },
         Pair {
             id: 6,
             value: 16_384
         },
     ]?;
-    write_frame(
-        &mut out,
-        &Frame::Settings {
-            ack: false,
-            pairs: Pairs::from_vec(limits),
-        },
-    )?;
-    let pairs = Pairs::from_vec(Vec::new(alloc));
-    write_frame(&mut out, &Frame::Settings { ack: true, pairs })?;
-    write_frame(
-        &mut out,
-        &Frame::Ping {
-            ack: true,
-            octets: [1, 2, 3, 4, 5, 6, 7, 8],
-        },
-    )?;
-    write_frame(&mut out, &Frame::Goaway { last: 0, code: 1 })?;
-    write_frame(&mut out, &Frame::Window { stream: 0, add: 54 })?;
-    let want = b"\0\0\x0c\x04\0\0\0\0\0\0\x03\0\0\0\x64\0\x06\0\0\x40\0\
-        \0\0\0\x04\x01\0\0\0\0\
-        \0\0\x08\x06\x01\0\0\0\0\x01\x02\x03\x04\x05\x06\x07\x08\
-        \0\0\x08\x07\0\0\0\0\0\0\0\0\0\0\0\0\x01\
-        \0\0\x04\x08\0\0\0\0\0\0\0\0\x36";
-    assert_eq!(rt; out.as_slice(), want.as_slice());
-    Ok(())
+    let settings = Frame::Settings {
+        ack: false,
+        pairs: Pairs::from_vec(limits),
+    };
+    assert_written(
+        &rt,
+        rt.alloc(),
+        &settings,
+        b"\0\0\x0c\x04\0\0\0\0\0\0\x03\0\0\0\x64\0\x06\0\0\x40\0",
+    )
 }
 
 #[test]
-fn frames_of_a_stream_are_written(rt: HostRuntime) -> Result<(), Fail> {
-    let alloc = rt.alloc();
-    let mut out = Vec::new(alloc);
-    let block = Blob::of(alloc, b"\x20\x88\x0f\x10\x10application/grpc")?;
-    write_frame(
-        &mut out,
-        &Frame::Headers {
-            stream: 1,
-            end: false,
-            whole: true,
-            block,
-        },
+fn answers_to_settings_and_pings_are_written(rt: HostRuntime) -> Result<(), Fail> {
+    let pairs = Pairs::from_vec(Vec::new(rt.alloc()));
+    let settings = Frame::Settings { ack: true, pairs };
+    assert_written(&rt, rt.alloc(), &settings, b"\0\0\0\x04\x01\0\0\0\0")?;
+    let ping = Frame::Ping {
+        ack: true,
+        octets: [1, 2, 3, 4, 5, 6, 7, 8],
+    };
+    assert_written(
+        &rt,
+        rt.alloc(),
+        &ping,
+        b"\0\0\x08\x06\x01\0\0\0\0\x01\x02\x03\x04\x05\x06\x07\x08",
+    )
+}
+
+#[test]
+fn windows_and_the_end_of_a_connection_are_written(rt: HostRuntime) -> Result<(), Fail> {
+    assert_written(
+        &rt,
+        rt.alloc(),
+        &Frame::Goaway { last: 0, code: 1 },
+        b"\0\0\x08\x07\0\0\0\0\0\0\0\0\0\0\0\0\x01",
     )?;
-    let bytes = Blob::of(alloc, b"hi")?;
-    write_frame(
-        &mut out,
-        &Frame::Body {
-            stream: 1,
-            end: false,
-            bytes,
-            counted: 2,
-        },
-    )?;
-    let block = Blob::of(alloc, b"\0\x0bgrpc-status\x010")?;
-    write_frame(
-        &mut out,
-        &Frame::Headers {
-            stream: 1,
-            end: true,
-            whole: true,
-            block,
-        },
-    )?;
-    let block = Blob::of(alloc, b"\x88")?;
-    write_frame(
-        &mut out,
-        &Frame::Continuation {
-            stream: 3,
-            whole: true,
-            block,
-        },
-    )?;
-    write_frame(&mut out, &Frame::Reset { stream: 1, code: 3 })?;
-    write_frame(&mut out, &Frame::Priority { stream: 5 })?;
-    write_frame(
-        &mut out,
-        &Frame::Unknown {
-            kind: 10,
-            stream: 7,
-        },
-    )?;
-    let want = b"\0\0\x15\x01\x04\0\0\0\x01\x20\x88\x0f\x10\x10application/grpc\
-        \0\0\x02\0\0\0\0\0\x01hi\
-        \0\0\x0f\x01\x05\0\0\0\x01\0\x0bgrpc-status\x010\
-        \0\0\x01\x09\x04\0\0\0\x03\x88\
-        \0\0\x04\x03\0\0\0\0\x01\0\0\0\x03\
-        \0\0\x05\x02\0\0\0\0\x05\0\0\0\0\x0f\
-        \0\0\0\x0a\0\0\0\0\x07";
-    assert_eq!(rt; out.as_slice(), want.as_slice());
-    Ok(())
+    assert_written(
+        &rt,
+        rt.alloc(),
+        &Frame::Window { stream: 0, add: 54 },
+        b"\0\0\x04\x08\0\0\0\0\0\0\0\0\x36",
+    )
+}
+
+#[test]
+fn headers_are_written(rt: HostRuntime) -> Result<(), Fail> {
+    let headers = Frame::Headers {
+        stream: 1,
+        end: false,
+        whole: true,
+        block: Blob::of(rt.alloc(), b"\x20\x88\x0f\x10\x10application/grpc")?,
+    };
+    assert_written(
+        &rt,
+        rt.alloc(),
+        &headers,
+        b"\0\0\x15\x01\x04\0\0\0\x01\x20\x88\x0f\x10\x10application/grpc",
+    )
+}
+
+#[test]
+fn trailers_are_written(rt: HostRuntime) -> Result<(), Fail> {
+    let trailers = Frame::Headers {
+        stream: 1,
+        end: true,
+        whole: true,
+        block: Blob::of(rt.alloc(), b"\0\x0bgrpc-status\x010")?,
+    };
+    assert_written(
+        &rt,
+        rt.alloc(),
+        &trailers,
+        b"\0\0\x0f\x01\x05\0\0\0\x01\0\x0bgrpc-status\x010",
+    )
+}
+
+#[test]
+fn bodies_are_written(rt: HostRuntime) -> Result<(), Fail> {
+    let body = Frame::Body {
+        stream: 1,
+        end: false,
+        bytes: Blob::of(rt.alloc(), b"hi")?,
+        counted: 2,
+    };
+    assert_written(&rt, rt.alloc(), &body, b"\0\0\x02\0\0\0\0\0\x01hi")
+}
+
+#[test]
+fn the_rest_of_a_block_is_written(rt: HostRuntime) -> Result<(), Fail> {
+    let rest = Frame::Continuation {
+        stream: 3,
+        whole: true,
+        block: Blob::of(rt.alloc(), b"\x88")?,
+    };
+    assert_written(&rt, rt.alloc(), &rest, b"\0\0\x01\x09\x04\0\0\0\x03\x88")
+}
+
+#[test]
+fn frames_without_bytes_are_written(rt: HostRuntime) -> Result<(), Fail> {
+    let reset = Frame::Reset { stream: 1, code: 3 };
+    let bytes = b"\0\0\x04\x03\0\0\0\0\x01\0\0\0\x03";
+    assert_written(&rt, rt.alloc(), &reset, bytes)?;
+    let priority = Frame::Priority { stream: 5 };
+    let bytes = b"\0\0\x05\x02\0\0\0\0\x05\0\0\0\0\x0f";
+    assert_written(&rt, rt.alloc(), &priority, bytes)?;
+    let unknown = Frame::Unknown {
+        kind: 10,
+        stream: 7,
+    };
+    assert_written(&rt, rt.alloc(), &unknown, b"\0\0\0\x0a\0\0\0\0\x07")
 }
