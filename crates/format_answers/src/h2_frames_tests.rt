@@ -51,20 +51,30 @@ fn shown(alloc: Global, next: &Next) -> Result<String, AllocError> {
     }
 }
 
+/// The answer to the next piece of some bytes, and the bytes behind it.
+fn next_answer<'a>(
+    reader: &mut FrameReader,
+    alloc: Global,
+    bytes: &'a [u8],
+    piece: usize,
+) -> Result<(Next, &'a [u8]), Memory> {
+    let n = piece.min(reader.need()).min(bytes.len());
+    let (now, after) = bytes.split_at(n);
+    reader.feed(alloc, now)?;
+    Ok((reader.next(alloc)?, after))
+}
+
 /// The first answer but `More` to the bytes after the preface, fed in pieces.
 fn answer(alloc: Global, bytes: &[u8], piece: usize) -> Result<Next, Memory> {
     let mut reader = FrameReader::new(alloc);
     reader.feed(alloc, PREFACE)?;
     let mut rest = bytes;
     for _ in 0..bytes.len() {
-        let n = piece.min(reader.need()).min(rest.len());
-        let (now, after) = rest.split_at(n);
-        reader.feed(alloc, now)?;
-        rest = after;
-        let next = reader.next(alloc)?;
+        let (next, after) = next_answer(&mut reader, alloc, rest, piece)?;
         if !matches!(next, Next::More) {
             return Ok(next);
         }
+        rest = after;
     }
     Ok(Next::More)
 }
@@ -179,22 +189,22 @@ fn what_is_held_and_missing_is_counted(rt: HostRuntime) -> Result<(), Fail> {
     Ok(())
 }
 
+/// The reader's next answer, as it is shown.
+fn shown_next(reader: &mut FrameReader, alloc: Global) -> Result<String, Memory> {
+    Ok(shown(alloc, &reader.next(alloc)?)?)
+}
+
 #[test]
 fn a_wrong_byte_of_the_preface_is_a_fault_at_once(rt: HostRuntime) -> Result<(), Fail> {
     let alloc = rt.alloc();
     let mut reader = FrameReader::new(alloc);
     reader.feed(alloc, b"PRI ")?;
-    assert_eq!(rt; shown(alloc, &reader.next(alloc)?)?.as_str(), "more");
+    assert_eq!(rt; shown_next(&mut reader, alloc)?.as_str(), "more");
     assert_eq!(rt; reader.need(), 20);
     reader.feed(alloc, b"\0")?;
-    assert_eq!(rt;
-        shown(alloc, &reader.next(alloc)?)?.as_str(),
-        "code 1 rule 1"
-    );
-    assert_eq!(rt;
-        shown(alloc, &reader.next(alloc)?)?.as_str(),
-        "code 1 rule 1"
-    );
+    for _ in 0..2 {
+        assert_eq!(rt; shown_next(&mut reader, alloc)?.as_str(), "code 1 rule 1");
+    }
     Ok(())
 }
 

@@ -1,4 +1,6 @@
 use hpack_codes::{HuffFault, IntFault, huffman_decode, huffman_len, read_int, write_int};
+use std::alloc::Global;
+use std::process::Abort;
 use std::test::Fail;
 
 /// The octets 0 to 255 in the codes of RFC 7541, appendix B, spelled by another program.
@@ -76,42 +78,41 @@ const SPELLED: [usize; 584] = [
     999, 251, 999, 999, 252, 999, 999, 999, 253, 999, 999, 254, 999, 999, 255, 999, 999, 999, 256,
 ];
 
+/// Bytes, and what an integer with a prefix of five bits reads as at their front.
+type Integer = (&'static [u8], Result<(u32, usize), IntFault>);
+
+const INTEGERS: [Integer; 11] = [
+    (&[0x0a], Ok((10, 1))),
+    (&[0x1f, 0x9a, 0x0a], Ok((1337, 3))),
+    (&[0x1f, 0x00], Ok((31, 2))),
+    (
+        &[0x1f, 0xe0, 0xff, 0xff, 0xff, 0x0f],
+        Ok((4294967295, 6)),
+    ),
+    (
+        &[0x1f, 0xe1, 0xff, 0xff, 0xff, 0x0f],
+        Err(IntFault::Overflow),
+    ),
+    (&[0x1f, 0x80, 0x80, 0x80, 0x80, 0x00], Ok((31, 6))),
+    (
+        &[0x1f, 0x80, 0x80, 0x80, 0x80, 0x80, 0x00],
+        Err(IntFault::Overflow),
+    ),
+    (
+        &[0x1f, 0x80, 0x80, 0x80, 0x80, 0x80],
+        Err(IntFault::Truncated),
+    ),
+    (&[0x1f, 0x9a], Err(IntFault::Truncated)),
+    (&[0x1f], Err(IntFault::Truncated)),
+    (&[], Err(IntFault::Truncated)),
+];
+
 #[test]
 fn reads_integers(rt: HostRuntime) {
-    let cases: [(&[u8], u32, Result<(u32, usize), IntFault>); 12] = [
-        (&[0x0a], 5, Ok((10, 1))),
-        (&[0x1f, 0x9a, 0x0a], 5, Ok((1337, 3))),
-        (&[0x2a], 8, Ok((42, 1))),
-        (&[0x1f, 0x00], 5, Ok((31, 2))),
-        (
-            &[0x1f, 0xe0, 0xff, 0xff, 0xff, 0x0f],
-            5,
-            Ok((4294967295, 6)),
-        ),
-        (
-            &[0x1f, 0xe1, 0xff, 0xff, 0xff, 0x0f],
-            5,
-            Err(IntFault::Overflow),
-        ),
-        (&[0x1f, 0x80, 0x80, 0x80, 0x80, 0x00], 5, Ok((31, 6))),
-        (
-            &[0x1f, 0x80, 0x80, 0x80, 0x80, 0x80, 0x00],
-            5,
-            Err(IntFault::Overflow),
-        ),
-        (
-            &[0x1f, 0x80, 0x80, 0x80, 0x80, 0x80],
-            5,
-            Err(IntFault::Truncated),
-        ),
-        (&[0x1f, 0x9a], 5, Err(IntFault::Truncated)),
-        (&[0x1f], 5, Err(IntFault::Truncated)),
-        (&[], 5, Err(IntFault::Truncated)),
-    ];
-    for (bytes, prefix, want) in cases {
-        assert_eq!(rt; prefix == 5 || prefix == 8, true);
-        assert_eq!(rt; read_int(bytes, 0, prefix), want, "{bytes:?}");
+    for (bytes, want) in &INTEGERS {
+        assert_eq!(rt; read_int(bytes, 0, 5), *want, "{bytes:?}");
     }
+    assert_eq!(rt; read_int(&[0x2a], 0, 8), Ok((42, 1)), "a whole octet");
 }
 
 #[test]
@@ -125,78 +126,102 @@ fn writes_integers(rt: HostRuntime) -> Result<(), Fail> {
     Ok(())
 }
 
-#[test]
-fn decodes_the_standards_strings(rt: HostRuntime) -> Result<(), Fail> {
-    let cases: [(&[u8], &str); 11] = [
-        (
-            &[
-                0xf1, 0xe3, 0xc2, 0xe5, 0xf2, 0x3a, 0x6b, 0xa0, 0xab, 0x90, 0xf4, 0xff,
-            ],
-            "www.example.com",
-        ),
-        (&[0xa8, 0xeb, 0x10, 0x64, 0x9c, 0xbf], "no-cache"),
-        (
-            &[0x25, 0xa8, 0x49, 0xe9, 0x5b, 0xa9, 0x7d, 0x7f],
-            "custom-key",
-        ),
-        (
-            &[0x25, 0xa8, 0x49, 0xe9, 0x5b, 0xb8, 0xe8, 0xb4, 0xbf],
-            "custom-value",
-        ),
-        (&[0x64, 0x02], "302"),
-        (&[0xae, 0xc3, 0x77, 0x1a, 0x4b], "private"),
-        (
-            &[
-                0xd0, 0x7a, 0xbe, 0x94, 0x10, 0x54, 0xd4, 0x44, 0xa8, 0x20, 0x05, 0x95, 0x04, 0x0b,
-                0x81, 0x66, 0xe0, 0x82, 0xa6, 0x2d, 0x1b, 0xff,
-            ],
-            "Mon, 21 Oct 2013 20:13:21 GMT",
-        ),
-        (
-            &[
-                0x9d, 0x29, 0xad, 0x17, 0x18, 0x63, 0xc7, 0x8f, 0x0b, 0x97, 0xc8, 0xe9, 0xae, 0x82,
-                0xae, 0x43, 0xd3,
-            ],
-            "https://www.example.com",
-        ),
-        (&[0x64, 0x0e, 0xff], "307"),
-        (&[0x9b, 0xd9, 0xab], "gzip"),
-        (&[0xfc], "X"),
-    ];
-    for (bytes, want) in cases {
-        let text = huffman_decode(rt.alloc(), bytes)?;
-        assert_eq!(rt; text.bytes(), want.as_bytes());
-        assert!(rt; want.len() < 100);
-        assert_eq!(rt;
-            huffman_len(want.as_bytes()).div_ceil(8),
-            bytes.len() as u64,
-            "{want}"
-        );
-    }
+/// The strings of RFC 7541, appendix C, and two more, in their codes.
+const STRINGS: [(&[u8], &str); 11] = [
+    (
+        &[
+            0xf1, 0xe3, 0xc2, 0xe5, 0xf2, 0x3a, 0x6b, 0xa0, 0xab, 0x90, 0xf4, 0xff,
+        ],
+        "www.example.com",
+    ),
+    (&[0xa8, 0xeb, 0x10, 0x64, 0x9c, 0xbf], "no-cache"),
+    (
+        &[0x25, 0xa8, 0x49, 0xe9, 0x5b, 0xa9, 0x7d, 0x7f],
+        "custom-key",
+    ),
+    (
+        &[0x25, 0xa8, 0x49, 0xe9, 0x5b, 0xb8, 0xe8, 0xb4, 0xbf],
+        "custom-value",
+    ),
+    (&[0x64, 0x02], "302"),
+    (&[0xae, 0xc3, 0x77, 0x1a, 0x4b], "private"),
+    (
+        &[
+            0xd0, 0x7a, 0xbe, 0x94, 0x10, 0x54, 0xd4, 0x44, 0xa8, 0x20, 0x05, 0x95, 0x04, 0x0b,
+            0x81, 0x66, 0xe0, 0x82, 0xa6, 0x2d, 0x1b, 0xff,
+        ],
+        "Mon, 21 Oct 2013 20:13:21 GMT",
+    ),
+    (
+        &[
+            0x9d, 0x29, 0xad, 0x17, 0x18, 0x63, 0xc7, 0x8f, 0x0b, 0x97, 0xc8, 0xe9, 0xae, 0x82,
+            0xae, 0x43, 0xd3,
+        ],
+        "https://www.example.com",
+    ),
+    (&[0x64, 0x0e, 0xff], "307"),
+    (&[0x9b, 0xd9, 0xab], "gzip"),
+    (&[0xfc], "X"),
+];
+
+/// Checks that the codes spell the text, and that it takes as many bytes.
+fn assert_spelled(
+    rt: &impl Abort,
+    alloc: Global,
+    codes: &[u8],
+    text: &str,
+) -> Result<(), HuffFault> {
+    assert_eq!(rt; huffman_decode(alloc, codes)?.bytes(), text.as_bytes());
+    assert!(rt; text.len() < 100);
+    let len = huffman_len(text.as_bytes()).div_ceil(8);
+    assert_eq!(rt; len, codes.len() as u64, "{text}");
     Ok(())
 }
 
 #[test]
+fn decodes_the_standards_strings(rt: HostRuntime) -> Result<(), Fail> {
+    for (codes, text) in &STRINGS {
+        assert_spelled(&rt, rt.alloc(), codes, text)?;
+    }
+    Ok(())
+}
+
+/// Bytes that spell no text.
+const BAD_STRINGS: [(&[u8], HuffFault); 6] = [
+    (&[0xfc, 0xff], HuffFault::BadPadding),
+    (
+        &[
+            0xf1, 0xe3, 0xc2, 0xe5, 0xf2, 0x3a, 0x6b, 0xa0, 0xab, 0x90, 0xf4, 0xfe,
+        ],
+        HuffFault::BadPadding,
+    ),
+    (&[0x00], HuffFault::BadPadding),
+    (&[0xff], HuffFault::BadPadding),
+    (&[0xff, 0xff, 0xff, 0xff], HuffFault::Eos),
+    (&[0x07, 0xff, 0xff, 0xff, 0xff], HuffFault::Eos),
+];
+
+#[test]
 fn refuses_bad_strings(rt: HostRuntime) {
-    let cases: [(&[u8], HuffFault); 6] = [
-        (&[0xfc, 0xff], HuffFault::BadPadding),
-        (
-            &[
-                0xf1, 0xe3, 0xc2, 0xe5, 0xf2, 0x3a, 0x6b, 0xa0, 0xab, 0x90, 0xf4, 0xfe,
-            ],
-            HuffFault::BadPadding,
-        ),
-        (&[0x00], HuffFault::BadPadding),
-        (&[0xff], HuffFault::BadPadding),
-        (&[0xff, 0xff, 0xff, 0xff], HuffFault::Eos),
-        (&[0x07, 0xff, 0xff, 0xff, 0xff], HuffFault::Eos),
-    ];
-    for (bytes, want) in cases {
-        assert_eq!(rt;
-            huffman_decode(rt.alloc(), bytes).err(),
-            Some(want),
-            "{bytes:?}"
-        );
+    for (codes, want) in &BAD_STRINGS {
+        let fault = huffman_decode(rt.alloc(), codes).err();
+        assert_eq!(rt; fault, Some(*want), "{codes:?}");
+    }
+}
+
+/// Checks that the codes spell so many octets from 0 on, or are badly padded where that is 999.
+fn assert_octets(rt: &impl Abort, alloc: Global, codes: &[u8], count: usize) {
+    match huffman_decode(alloc, codes) {
+        Ok(text) => {
+            assert_eq!(rt; text.len(), count, "{} bytes", codes.len());
+            for (octet, want) in text.bytes().iter().zip(0..=255) {
+                assert_eq!(rt; *octet, want);
+            }
+        }
+        Err(fault) => {
+            assert_eq!(rt; count, 999, "{} bytes", codes.len());
+            assert_eq!(rt; fault, HuffFault::BadPadding);
+        }
     }
 }
 
@@ -204,17 +229,6 @@ fn refuses_bad_strings(rt: HostRuntime) {
 fn decodes_each_octet(rt: HostRuntime) {
     for (cut, count) in SPELLED.iter().enumerate() {
         assert!(rt; cut <= ALL_OCTETS.len());
-        match huffman_decode(rt.alloc(), &ALL_OCTETS[..cut]) {
-            Ok(text) => {
-                assert_eq!(rt; text.len(), *count, "{cut} bytes");
-                for (octet, want) in text.bytes().iter().zip(0..=255) {
-                    assert_eq!(rt; *octet, want);
-                }
-            }
-            Err(fault) => {
-                assert_eq!(rt; *count, 999, "{cut} bytes");
-                assert_eq!(rt; fault, HuffFault::BadPadding);
-            }
-        }
+        assert_octets(&rt, rt.alloc(), &ALL_OCTETS[..cut], *count);
     }
 }
