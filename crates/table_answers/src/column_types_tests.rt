@@ -26,32 +26,33 @@ fn fault(alloc: Global, names: &[&str]) -> Result<Option<SchemaFault>, Memory> {
     Ok(Schema::of(alloc, columns(alloc, names)?).err())
 }
 
+/// A name of 128 bytes.
+const LONGEST: &str = "a_23456789a_23456789a_23456789a_23456789a_23456789a_23456789a_23456789a_23456789a_23456789a_23456789a_23456789a_23456789a_234567";
+
 #[test]
 fn names_of_columns(rt: HostRuntime) -> Result<(), Fail> {
     let alloc = rt.alloc();
-    let longest =
-        "a_23456789a_23456789a_23456789a_23456789a_23456789a_23456789a_23456789a_23456789a_23456789a_23456789a_23456789a_23456789a_234567";
-    assert_eq!(rt; longest.len(), 128);
-    assert_eq!(rt; fault(alloc, &["_id", "Tag2", longest])?, None);
+    assert_eq!(rt; LONGEST.len(), 128);
+    assert_eq!(rt; fault(alloc, &["_id", "Tag2", LONGEST])?, None);
     assert_eq!(rt; fault(alloc, &[])?, Some(SchemaFault::NoColumns));
-    assert_eq!(rt;
-        fault(alloc, &["a", "1b", ""])?,
-        Some(SchemaFault::BadColumn { at: 1 })
-    );
-    assert_eq!(rt;
-        fault(alloc, &["a", "A"])?,
-        Some(SchemaFault::Repeated {
-            first: 0,
-            second: 1
-        })
-    );
-    assert_eq!(rt;
-        fault(alloc, &["a", "b", "c", "B", "A"])?,
-        Some(SchemaFault::Repeated {
-            first: 1,
-            second: 3
-        })
-    );
+    let bad = Some(SchemaFault::BadColumn { at: 1 });
+    assert_eq!(rt; fault(alloc, &["a", "1b", ""])?, bad);
+    Ok(())
+}
+
+/// The places of two columns with one name, if the names are refused so.
+fn repeated(alloc: Global, names: &[&str]) -> Result<Option<(usize, usize)>, Memory> {
+    match fault(alloc, names)? {
+        Some(SchemaFault::Repeated { first, second }) => Ok(Some((first, second))),
+        _ => Ok(None),
+    }
+}
+
+#[test]
+fn repeated_names_of_columns(rt: HostRuntime) -> Result<(), Fail> {
+    let alloc = rt.alloc();
+    assert_eq!(rt; repeated(alloc, &["a", "A"])?, Some((0, 1)));
+    assert_eq!(rt; repeated(alloc, &["a", "b", "c", "B", "A"])?, Some((1, 3)));
     Ok(())
 }
 
@@ -72,21 +73,30 @@ fn null_is_not_kept_by_not(rt: HostRuntime) -> Result<(), Fail> {
         let row = Row::from_vec(vec![in alloc; cell]?);
         assert_eq!(rt; truth(&pred, &row), want);
     }
+    Ok(())
+}
+
+#[test]
+fn one_of_the_values_is_enough(rt: HostRuntime) -> Result<(), Fail> {
+    let alloc = rt.alloc();
     let one_of = Pred::Among {
         column: 0,
         values: Items::from_vec(vec![in alloc; Cell::Int(1), Cell::Int(7)]?),
     };
-    assert_eq!(rt;
-        truth(&one_of, &Row::from_vec(vec![in alloc; Cell::Int(7)]?)),
-        Truth::Yes
-    );
+    let row = Row::from_vec(vec![in alloc; Cell::Int(7)]?);
+    assert_eq!(rt; truth(&one_of, &row), Truth::Yes);
     Ok(())
+}
+
+/// The columns `id`, `tag` and `size`.
+fn three_columns(alloc: Global) -> Result<Schema, Fail> {
+    Ok(Schema::of(alloc, columns(alloc, &["id", "tag", "size"])?)?)
 }
 
 #[test]
 fn fields_keep_the_order_of_the_schema(rt: HostRuntime) -> Result<(), Fail> {
     let alloc = rt.alloc();
-    let schema = Schema::of(alloc, columns(alloc, &["id", "tag", "size"])?)?;
+    let schema = three_columns(alloc)?;
     let names = vec![in alloc;
         Text::of(alloc, "SIZE")?,
         Text::of(alloc, "id")?,

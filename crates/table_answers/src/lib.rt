@@ -19,3 +19,5 @@ mod table_spec_tests;
 mod write_msgs_tests;
 #[cfg(test)]
 mod write_streams_tests;
+#[cfg(test)]
+mod written;

@@ -1,12 +1,11 @@
 //! Rows of a message with one field, `id` with number 1, and the edges of the types that it can have.
 
-ghost use Rattle.std.specs.Prelude.{◌<◌, ◌^◌, length};
-
 use column_types::{Cell, Column, Kind, Mode, Schema};
 use outside::{Blob, Text};
 use row_decode::{RowFault, RowWhy, RowsFault, decode_row, decode_rows};
 use row_descriptor::{Binding, Descriptor, bind};
 use std::alloc::Global;
+use std::process::Abort;
 use std::test::Fail;
 
 /// The binding of a column `id`, INT64 and REQUIRED, to a field with number 1 of this type.
@@ -28,9 +27,13 @@ fn binding(alloc: Global, field_type: u8) -> Result<Binding, Fail> {
 }
 
 /// The number in `id`.
-fn number(alloc: Global, field_type: u8, bytes: &[u8]) -> Result<Result<i64, RowWhy>, Fail>
-    requires { length bytes.now < 2 ^ 32 }
-{
+fn number(
+    rt: &impl Abort,
+    alloc: Global,
+    field_type: u8,
+    bytes: &[u8],
+) -> Result<Result<i64, RowWhy>, Fail> {
+    assert!(rt; bytes.len() < 1 << 32);
     let binding = binding(alloc, field_type)?;
     match decode_row(alloc, &binding, bytes) {
         Ok(row) => match row.cells() {
@@ -41,68 +44,72 @@ fn number(alloc: Global, field_type: u8, bytes: &[u8]) -> Result<Result<i64, Row
     }
 }
 
+/// A field's type, a row, the number in it or why there is none, and what it shows.
+type Case = (u8, &'static [u8], Result<i64, RowWhy>, &'static str);
+
+/// Field 1 is 2^64 - 1.
+const ONES: &[u8] = &[
+    0x08, 0xff, 0xff, 0xff, 0xff, 0xff, 0xff, 0xff, 0xff, 0xff, 0x01,
+];
+
+/// Field 1 is 2^32 + 3.
+const TWO_TO_32_AND_3: &[u8] = &[0x08, 0x83, 0x80, 0x80, 0x80, 0x10];
+
+const NUMBERS: [Case; 9] = [
+    (3, ONES, Ok(-1), "INT64"),
+    (4, ONES, Err(RowWhy::OutOfRange { column: 0 }), "UINT64"),
+    (13, ONES, Ok(4_294_967_295), "UINT32"),
+    (14, ONES, Ok(-1), "ENUM"),
+    (17, TWO_TO_32_AND_3, Ok(-2), "SINT32"),
+    (18, &[0x08, 0x03], Ok(-2), "SINT64"),
+    (3, &[0x08, 0x01, 0x08, 0x02], Ok(2), "the last value counts"),
+    (
+        3,
+        &[0x0d, 0x01, 0x00, 0x00, 0x00],
+        Err(RowWhy::Missing { column: 0 }),
+        "of another wire type",
+    ),
+    (
+        3,
+        &[
+            0x08, 0x80, 0x80, 0x80, 0x80, 0x80, 0x80, 0x80, 0x80, 0x80, 0x80, 0x00,
+        ],
+        Err(RowWhy::Malformed),
+        "an eleventh byte",
+    ),
+];
+
 #[test]
-fn numbers_by_their_types(rt: HostRuntime) -> Result<(), Fail> {
-    let alloc = rt.alloc();
-    let ones = [
-        0x08, 0xff, 0xff, 0xff, 0xff, 0xff, 0xff, 0xff, 0xff, 0xff, 0x01,
-    ];
-    assert_eq!(rt; number(alloc, 3, &ones)?, Ok(-1), "INT64");
-    assert_eq!(rt;
-        number(alloc, 4, &ones)?,
-        Err(RowWhy::OutOfRange { column: 0 }),
-        "UINT64"
-    );
-    assert_eq!(rt; number(alloc, 13, &ones)?, Ok(4_294_967_295), "UINT32");
-    assert_eq!(rt; number(alloc, 14, &ones)?, Ok(-1), "ENUM");
-    let two_to_32_and_3 = [0x08, 0x83, 0x80, 0x80, 0x80, 0x10];
-    assert_eq!(rt; number(alloc, 17, &two_to_32_and_3)?, Ok(-2), "SINT32");
-    assert_eq!(rt; number(alloc, 18, &[0x08, 0x03])?, Ok(-2), "SINT64");
+fn numbers_in_rows(rt: HostRuntime) -> Result<(), Fail> {
+    for (field_type, bytes, want, message) in &NUMBERS {
+        let found = number(&rt, rt.alloc(), *field_type, bytes)?;
+        assert_eq!(rt; found, *want, "{message}");
+    }
     Ok(())
 }
 
 #[test]
-fn the_last_value_counts(rt: HostRuntime) -> Result<(), Fail> {
-    let alloc = rt.alloc();
-    assert_eq!(rt; number(alloc, 3, &[0x08, 0x01, 0x08, 0x02])?, Ok(2));
-    assert_eq!(rt;
-        number(alloc, 3, &[0x0d, 0x01, 0x00, 0x00, 0x00])?,
-        Err(RowWhy::Missing { column: 0 }),
-        "of another wire type"
-    );
-    assert_eq!(rt;
-        number(
-            alloc,
-            3,
-            &[
-                0x08, 0x80, 0x80, 0x80, 0x80, 0x80, 0x80, 0x80, 0x80, 0x80, 0x80, 0x00
-            ]
-        )?,
-        Err(RowWhy::Malformed),
-        "an eleventh byte"
-    );
+fn a_good_row(rt: HostRuntime) -> Result<(), Fail> {
+    let binding = binding(rt.alloc(), 3)?;
+    let good = [Blob::of(rt.alloc(), &[0x08, 0x01])?];
+    match decode_rows(rt.alloc(), &binding, &good) {
+        Ok(rows) => assert_eq!(rt; rows.len(), 1),
+        Err(_) => return Err("a good row".into()),
+    }
     Ok(())
 }
 
 #[test]
 fn faults_of_rows(rt: HostRuntime) -> Result<(), Fail> {
-    let alloc = rt.alloc();
-    let binding = binding(alloc, 3)?;
-    let good = [Blob::of(alloc, &[0x08, 0x01])?];
-    match decode_rows(alloc, &binding, &good) {
-        Ok(rows) => assert_eq!(rt; rows.len(), 1),
-        Err(_) => return Err("a good row".into()),
-    }
-    let bad = [Blob::of(alloc, &[])?];
-    match decode_rows(alloc, &binding, &bad) {
-        Err(RowsFault::Refused(faults)) => {
-            let missing = RowFault {
-                index: 0,
-                why: RowWhy::Missing { column: 0 },
-            };
-            assert_eq!(rt; faults.faults(), [missing].as_slice());
-        }
-        _ => return Err("a REQUIRED column without a value".into()),
-    }
+    let binding = binding(rt.alloc(), 3)?;
+    let bad = [Blob::of(rt.alloc(), &[])?];
+    let Err(RowsFault::Refused(faults)) = decode_rows(rt.alloc(), &binding, &bad) else {
+        return Err("a REQUIRED column without a value".into());
+    };
+    let missing = RowFault {
+        index: 0,
+        why: RowWhy::Missing { column: 0 },
+    };
+    assert_eq!(rt; faults.faults(), [missing].as_slice());
     Ok(())
 }

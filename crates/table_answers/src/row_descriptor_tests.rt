@@ -42,71 +42,80 @@ fn refusal(alloc: Global, bytes: &[u8]) -> Result<(char, Text), Fail>
     }
 }
 
+/// `R` with another byte at this place.
+fn changed(at: usize, byte: u8) -> [u8; 15]
+    requires { at < 15 }
+{
+    let mut bytes = ROW;
+    bytes[at] = byte;
+    bytes
+}
+
 #[test]
 fn binds_a_field_by_its_name(rt: HostRuntime) -> Result<(), Fail> {
-    let alloc = rt.alloc();
-    let mut bytes = ROW;
-    bytes[7] = b'I';
-    let descriptor = Descriptor::parse(alloc, &bytes)?;
+    let descriptor = Descriptor::parse(rt.alloc(), &changed(7, b'I'))?;
     assert_eq!(rt; descriptor.fields().len(), 1);
-    let Ok(binding) = bind(alloc, &descriptor, &table(alloc)?) else {
+    let Ok(binding) = bind(rt.alloc(), &descriptor, &table(rt.alloc())?) else {
         return Err("it fits".into());
+    };
+    let id = Source {
+        number: 1,
+        field_type: FieldType::Int64,
     };
     let columns = binding.columns();
     assert_eq!(rt; columns.len(), 2);
-    assert_eq!(rt;
-        columns[0].source,
-        Some(Source {
-            number: 1,
-            field_type: FieldType::Int64
-        })
-    );
+    assert_eq!(rt; columns[0].source, Some(id));
     assert_eq!(rt; columns[1].source, None);
     Ok(())
 }
 
 #[test]
-fn refuses_what_does_not_fit(rt: HostRuntime) -> Result<(), Fail> {
-    let alloc = rt.alloc();
-    let mut text = ROW;
-    text[14] = 9;
-    let (kind, name) = refusal(alloc, &text)?;
-    assert_eq!(rt; kind, 'T');
-    assert_eq!(rt; name.text(), "id");
-    let mut repeated = ROW;
-    repeated[12] = 3;
-    assert_eq!(rt; refusal(alloc, &repeated)?.0, 'T');
-    let mut other = ROW;
-    other[8] = b'x';
-    let (kind, name) = refusal(alloc, &other)?;
-    assert_eq!(rt; kind, 'E');
-    assert_eq!(rt; name.text(), "ix");
-    let tag = [
-        0x12, 0x09, 0x0a, 0x03, b'T', b'A', b'G', 0x18, 0x01, 0x28, 0x09,
-    ];
-    let (kind, name) = refusal(alloc, &tag)?;
-    assert_eq!(rt; kind, 'M');
-    assert_eq!(rt; name.text(), "id");
+fn refuses_a_field_of_another_type(rt: HostRuntime) -> Result<(), Fail> {
+    let (kind, name) = refusal(rt.alloc(), &changed(14, 9))?;
+    assert_eq!(rt; (kind, name.text()), ('T', "id"));
+    let (kind, _) = refusal(rt.alloc(), &changed(12, 3))?;
+    assert_eq!(rt; kind, 'T', "a repeated field");
     Ok(())
+}
+
+#[test]
+fn refuses_a_field_of_another_name(rt: HostRuntime) -> Result<(), Fail> {
+    let (kind, name) = refusal(rt.alloc(), &changed(8, b'x'))?;
+    assert_eq!(rt; (kind, name.text()), ('E', "ix"));
+    Ok(())
+}
+
+/// A message with the field `TAG` alone.
+const TAG: [u8; 11] = [
+    0x12, 0x09, 0x0a, 0x03, b'T', b'A', b'G', 0x18, 0x01, 0x28, 0x09,
+];
+
+#[test]
+fn refuses_a_message_without_a_required_field(rt: HostRuntime) -> Result<(), Fail> {
+    let (kind, name) = refusal(rt.alloc(), &TAG)?;
+    assert_eq!(rt; (kind, name.text()), ('M', "id"));
+    Ok(())
+}
+
+/// The fields `a` and `A`.
+const TWICE: [u8; 18] = [
+    0x12, 0x07, 0x0a, 0x01, b'a', 0x18, 0x01, 0x28, 0x03, 0x12, 0x07, 0x0a, 0x01, b'A', 0x18, 0x02,
+    0x28, 0x03,
+];
+
+/// Why bytes are no descriptor.
+fn fault(alloc: Global, bytes: &[u8]) -> Option<DescriptorFault>
+    requires { length bytes.now < 2 ^ 32 }
+{
+    Descriptor::parse(alloc, bytes).err()
 }
 
 #[test]
 fn refuses_bad_descriptors(rt: HostRuntime) {
     let alloc = rt.alloc();
-    let twice = [
-        0x12, 0x07, 0x0a, 0x01, b'a', 0x18, 0x01, 0x28, 0x03, 0x12, 0x07, 0x0a, 0x01, b'A', 0x18,
-        0x02, 0x28, 0x03,
-    ];
-    for (bytes, why) in [
-        (&ROW[..14], "the field is cut short"),
-        (&ROW[..3], "there is no field"),
-        (&ROW[1..], "no message"),
-        (&twice, "one name twice"),
-    ] {
-        assert_eq!(rt;
-            Descriptor::parse(alloc, bytes).err(),
-            Some(DescriptorFault::BadDescriptor),
-            "{why}"
-        );
-    }
+    let bad = Some(DescriptorFault::BadDescriptor);
+    assert_eq!(rt; fault(alloc, &ROW[..14]), bad, "the field is cut short");
+    assert_eq!(rt; fault(alloc, &ROW[..3]), bad, "there is no field");
+    assert_eq!(rt; fault(alloc, &ROW[1..]), bad, "no message");
+    assert_eq!(rt; fault(alloc, &TWICE), bad, "one name twice");
 }

@@ -1,9 +1,11 @@
 //! Schemas as they are spelled on the wire.
 
+use crate::written::assert_written;
 use outside::Text;
 use proto_fields::{Out, varint_len};
 use schema_msgs::*;
 use std::alloc::Global;
+use std::process::Abort;
 use std::test::Fail;
 use write_msgs::MsgFault;
 
@@ -14,31 +16,42 @@ const COLUMNS: [u8; 31] = [
     0x04, 0x22, 0x07, 0x0a, 0x01, 0x78, 0x10, 0x04, 0x22, 0x00, 0x22, 0x03, 0x0a, 0x01, 0x79,
 ];
 
+/// The depth, the name, the type and the mode of each field in [`COLUMNS`].
+const FIELDS: [(u32, &str, i32, i32); 5] = [
+    (0, "id", 2, 2),
+    (0, "p", 4, 0),
+    (1, "x", 4, 0),
+    (2, "", 0, 0),
+    (1, "y", 0, 0),
+];
+
+/// Checks the depth, the name, the type and the mode of each field.
+fn assert_fields(rt: &impl Abort, fields: &[NestedField], wanted: &[(u32, &str, i32, i32)]) {
+    assert_eq!(rt; fields.len(), wanted.len());
+    for (field, (depth, name, column_type, mode)) in fields.iter().zip(wanted) {
+        assert_eq!(rt;
+            (field.depth, field.column_type, field.mode),
+            (*depth, *column_type, *mode),
+            "{name}"
+        );
+        assert_eq!(rt; field.name.text(), *name);
+    }
+}
+
 #[test]
 fn reads_and_writes_a_schema(rt: HostRuntime) -> Result<(), Fail> {
     let schema = TableSchema::decode(rt.alloc(), &COLUMNS)?;
-    let wanted = [
-        (0, "id", 2, 2),
-        (0, "p", 4, 0),
-        (1, "x", 4, 0),
-        (2, "", 0, 0),
-        (1, "y", 0, 0),
-    ];
-    let nested = schema.fields.nested();
-    assert_eq!(rt; nested.len(), wanted.len());
-    for (field, (depth, name, column_type, mode)) in nested.iter().zip(wanted) {
-        assert_eq!(rt; field.depth, depth, "{name}");
-        assert_eq!(rt; field.name.text(), name);
-        assert_eq!(rt; field.column_type, column_type, "{name}");
-        assert_eq!(rt; field.mode, mode, "{name}");
-    }
-    assert_eq!(rt; schema.encode(rt.alloc())?.bytes(), COLUMNS.as_slice());
+    assert_fields(&rt, schema.fields.nested(), &FIELDS);
+    assert_written(&rt, schema.encode(rt.alloc()), &COLUMNS)
+}
 
+#[test]
+fn reads_and_writes_a_column(rt: HostRuntime) -> Result<(), Fail> {
     let bytes = &COLUMNS[12..];
     let field = TableFieldSchema::decode(rt.alloc(), bytes)?;
     assert_eq!(rt; field.name.text(), "p");
     assert_eq!(rt; (field.column_type, field.mode), (4, 0));
-    assert_eq!(rt; field.encode(rt.alloc())?.bytes(), bytes);
+    assert_written(&rt, field.encode(rt.alloc()), bytes)?;
     assert_eq!(rt; field.fields.into_vec().len(), 3);
     Ok(())
 }
@@ -62,68 +75,80 @@ fn two_fields(alloc: Global) -> Result<TableFieldSchemas, Fail> {
     Ok(TableFieldSchemas::from_vec(nested))
 }
 
+/// A column `a` with a column `b` within it.
+const MADE: [u8; 25] = [
+    0x0a, 0x17, 0x0a, 0x01, 0x61, 0x10, 0x04, 0x18, 0x01, 0x22, 0x0e, 0x0a, 0x01, 0x62, 0x10, 0xff,
+    0xff, 0xff, 0xff, 0xff, 0xff, 0xff, 0xff, 0xff, 0x01,
+];
+
 #[test]
 fn writes_what_was_made(rt: HostRuntime) -> Result<(), Fail> {
     let schema = TableSchema {
         fields: two_fields(rt.alloc())?,
     };
-    let bytes = [
-        0x0a, 0x17, 0x0a, 0x01, 0x61, 0x10, 0x04, 0x18, 0x01, 0x22, 0x0e, 0x0a, 0x01, 0x62, 0x10,
-        0xff, 0xff, 0xff, 0xff, 0xff, 0xff, 0xff, 0xff, 0xff, 0x01,
-    ];
-    assert_eq!(rt; schema.encode(rt.alloc())?.bytes(), bytes.as_slice());
+    assert_written(&rt, schema.encode(rt.alloc()), &MADE)
+}
+
+#[test]
+fn writes_no_columns(rt: HostRuntime) -> Result<(), Fail> {
     let none = TableSchema {
         fields: TableFieldSchemas::none(rt.alloc()),
     };
-    assert!(rt; none.encode(rt.alloc())?.bytes().is_empty());
-    Ok(())
+    assert_written(&rt, none.encode(rt.alloc()), &[])
+}
+
+/// A schema, why it is refused, and what it shows.
+type Case = (&'static [u8], Option<MsgFault>, &'static str);
+
+/// Schemas with faults, of which the first in order is the answer.
+const SCHEMAS: [Case; 7] = [
+    (
+        &[0x0a, 0, 0x0a, 4, 0x22, 2, 0x22, 0],
+        None,
+        "three levels deep, the second field with two within it",
+    ),
+    (
+        &[0x0a, 0, 0x0a, 5, 0x22, 3, 0x22, 1, 0x0b],
+        Some(MsgFault::BadProto { at: 2 }),
+        "a group three levels deep, at the tag of the second column",
+    ),
+    (
+        &[0x0a, 5, 0x22, 3, 0x0a, 1, 0xff, 0x0a, 1, 0x0b],
+        Some(MsgFault::BadProto { at: 7 }),
+        "a column that is no message before a name that is no text",
+    ),
+    (
+        &[0x0a, 3, 0x0a, 1, 0x61, 0x0a, 5, 0x22, 3, 0x0a, 1, 0xff],
+        Some(MsgFault::BadUtf8 { field: 1 }),
+        "the name of a field within the second column",
+    ),
+    (
+        &[0x0a, 1, 0x0b, 0x0b],
+        Some(MsgFault::BadProto { at: 3 }),
+        "a field of its own before one within",
+    ),
+    (
+        &[0x0a, 2, 0x20, 0x0b],
+        None,
+        "field 4 of another wire type has no fields",
+    ),
+    (
+        &[0x0a, 6, 0x22, 1, 0x0b, 0x22, 1, 0x0a, 0x0b],
+        Some(MsgFault::BadProto { at: 8 }),
+        "behind a column with two that are no messages",
+    ),
+];
+
+/// Why a schema is refused.
+fn refusal(rt: &impl Abort, alloc: Global, bytes: &[u8]) -> Option<MsgFault> {
+    assert!(rt; bytes.len() < 1 << 32);
+    TableSchema::decode(alloc, bytes).err()
 }
 
 #[test]
 fn refuses_by_the_order_of_faults(rt: HostRuntime) {
-    let cases: [(&[u8], Option<MsgFault>, &str); 7] = [
-        (
-            &[0x0a, 0, 0x0a, 4, 0x22, 2, 0x22, 0],
-            None,
-            "three levels deep, the second field with two within it",
-        ),
-        (
-            &[0x0a, 0, 0x0a, 5, 0x22, 3, 0x22, 1, 0x0b],
-            Some(MsgFault::BadProto { at: 2 }),
-            "a group three levels deep, at the tag of the second column",
-        ),
-        (
-            &[0x0a, 5, 0x22, 3, 0x0a, 1, 0xff, 0x0a, 1, 0x0b],
-            Some(MsgFault::BadProto { at: 7 }),
-            "a column that is no message before a name that is no text",
-        ),
-        (
-            &[0x0a, 3, 0x0a, 1, 0x61, 0x0a, 5, 0x22, 3, 0x0a, 1, 0xff],
-            Some(MsgFault::BadUtf8 { field: 1 }),
-            "the name of a field within the second column",
-        ),
-        (
-            &[0x0a, 1, 0x0b, 0x0b],
-            Some(MsgFault::BadProto { at: 3 }),
-            "a field of its own before one within",
-        ),
-        (
-            &[0x0a, 2, 0x20, 0x0b],
-            None,
-            "field 4 of another wire type has no fields",
-        ),
-        (
-            &[0x0a, 6, 0x22, 1, 0x0b, 0x22, 1, 0x0a, 0x0b],
-            Some(MsgFault::BadProto { at: 8 }),
-            "behind a column with two that are no messages",
-        ),
-    ];
-    for (bytes, fault, message) in cases {
-        assert_eq!(rt;
-            TableSchema::decode(rt.alloc(), bytes).err(),
-            fault,
-            "{message}"
-        );
+    for (bytes, fault, message) in &SCHEMAS {
+        assert_eq!(rt; refusal(&rt, rt.alloc(), bytes), *fault, "{message}");
     }
 }
 
@@ -151,8 +176,8 @@ fn reads_and_writes_however_deep(rt: HostRuntime) -> Result<(), Fail> {
     let bytes = message.bytes();
     assert!(rt; bytes.len() < 1 << 32);
     let field = TableFieldSchema::decode(rt.alloc(), bytes)?;
+    assert_written(&rt, field.encode(rt.alloc()), bytes)?;
     assert_eq!(rt; field.fields.nested().len(), DEEP);
-    assert_eq!(rt; field.encode(rt.alloc())?.bytes(), bytes);
     let last = field.fields.nested().last().ok_or("fields")?;
     assert_eq!(rt; last.depth as usize, DEEP - 1);
     Ok(())
@@ -169,7 +194,7 @@ const CREATE: [u8; 25] = [
 fn reads_and_writes_a_request(rt: HostRuntime) -> Result<(), Fail> {
     let request = CreateWriteStreamRequest::decode(rt.alloc(), &CREATE)?;
     assert_eq!(rt; request.parent.text(), "p");
-    assert_eq!(rt; request.encode(rt.alloc())?.bytes(), CREATE.as_slice());
+    assert_written(&rt, request.encode(rt.alloc()), &CREATE)?;
     let stream = request.write_stream.ok_or("write_stream")?;
     assert_eq!(rt; stream.name.text(), "w");
     Ok(())
@@ -179,7 +204,7 @@ fn reads_and_writes_a_request(rt: HostRuntime) -> Result<(), Fail> {
 fn reads_and_writes_a_write_stream(rt: HostRuntime) -> Result<(), Fail> {
     let bytes = &CREATE[5..];
     let stream = WriteStream::decode(rt.alloc(), bytes)?;
-    assert_eq!(rt; stream.encode(rt.alloc())?.bytes(), bytes);
+    assert_written(&rt, stream.encode(rt.alloc()), bytes)?;
     assert_eq!(rt; stream.stream_type, 2);
     assert_eq!(rt; stream.create_time.map(|time| time.seconds), Some(5));
     assert_eq!(rt; stream.commit_time.map(|time| time.nanos), Some(7));

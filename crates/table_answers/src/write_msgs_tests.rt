@@ -1,6 +1,7 @@
 //! AppendRowsRequests and AppendRowsResponses as they are spelled on the wire.
 
-use outside::{Blob, Memory, Text};
+use crate::written::assert_written;
+use outside::{Blob, Text};
 use std::alloc::Global;
 use std::process::Abort;
 use std::test::Fail;
@@ -14,16 +15,6 @@ const WITH_DESCRIPTOR: [u8; 27] = [
     0x22, 0x19, 0x0a, 0x11, 0x0a, 0x0f, 0x0a, 0x01, 0x52, 0x12, 0x0a, 0x0a, 0x02, 0x69, 0x64, 0x18,
     0x01, 0x20, 0x02, 0x28, 0x03, 0x12, 0x04, 0x0a, 0x02, 0x08, 0x01,
 ];
-
-/// Checks that a message was written as these bytes.
-fn assert_written(
-    rt: &impl Abort,
-    written: Result<Blob, Memory>,
-    bytes: &[u8],
-) -> Result<(), Fail> {
-    assert_eq!(rt; written?.bytes(), bytes);
-    Ok(())
-}
 
 #[test]
 fn reads_and_writes_an_empty_offset(rt: HostRuntime) -> Result<(), Fail> {
