@@ -1,10 +1,10 @@
+use crate::listed::assert_fields;
 use grpc_meta::{
     MetaFault, Method, Status, http_only, method_of, response_head, trailer_is_good, trailers,
 };
 use hpack_blocks::Field;
 use outside::{Blob, Memory, Text};
 use std::alloc::Global;
-use std::process::Abort;
 use std::test::Fail;
 
 fn fields_of(alloc: Global, texts: &[(&str, &str)]) -> Result<Vec<Field>, Memory> {
@@ -16,15 +16,6 @@ fn fields_of(alloc: Global, texts: &[(&str, &str)]) -> Result<Vec<Field>, Memory
         })?;
     }
     Ok(fields)
-}
-
-/// Checks the names and values of a list.
-fn assert_fields(rt: &impl Abort, fields: &[Field], want: &[(&str, &str)]) {
-    assert_eq!(rt; fields.len(), want.len());
-    for (field, (name, value)) in fields.iter().zip(want) {
-        assert_eq!(rt; field.name.bytes(), name.as_bytes());
-        assert_eq!(rt; field.value.bytes(), value.as_bytes());
-    }
 }
 
 const APPEND_ROWS: &str = "/google.cloud.bigquery.storage.v1.BigQueryWrite/AppendRows";

@@ -137,10 +137,7 @@ const BROKEN_RULES: [Case; 10] = [
         b"\0\0\x07\x06\0\0\0\0\0\x01\x02\x03\x04\x05\x06\x07",
         "code 6 rule 4",
     ),
-    (
-        b"\0\0\x07\x04\0\0\0\0\0\0\x04\0\0\0\x04\0",
-        "code 6 rule 4",
-    ),
+    (b"\0\0\x07\x04\0\0\0\0\0\0\x04\0\0\0\x04\0", "code 6 rule 4"),
     (b"\0\0\0\0\x08\0\0\0\x01", "code 6 rule 4"),
     (b"\0\0\x04\x01\x20\0\0\0\x01\0\0\0\0", "code 6 rule 4"),
     (b"\0\0\x01\0\x08\0\0\0\x01\x01", "code 1 rule 5"),
@@ -173,25 +170,31 @@ fn a_broken_rule_is_the_answer(rt: HostRuntime) -> Result<(), Fail> {
     Ok(assert_answers(&rt, rt.alloc(), &BROKEN_RULES)?)
 }
 
-#[test]
-fn what_is_held_and_missing_is_counted(rt: HostRuntime) -> Result<(), Fail> {
-    let alloc = rt.alloc();
-    let mut reader = FrameReader::new(alloc);
-    assert_eq!(rt; (reader.held(), reader.need()), (0, 24));
-    reader.feed(alloc, b"PRI * HTTP")?;
-    assert_eq!(rt; (reader.held(), reader.need()), (10, 14));
-    assert!(rt; matches!(reader.next(alloc)?, Next::More));
-    assert_eq!(rt; reader.need(), 14);
-    reader.feed(alloc, b"/2.0\r\n\r\nSM\r\n\r\n")?;
-    assert_eq!(rt; (reader.held(), reader.need()), (0, 9));
-    reader.feed(alloc, b"\0\x40\0\0\0\0\0\0\x01")?;
-    assert_eq!(rt; (reader.held(), reader.need()), (9, 16_384));
-    Ok(())
-}
-
 /// The reader's next answer, as it is shown.
 fn shown_next(reader: &mut FrameReader, alloc: Global) -> Result<String, Memory> {
     Ok(shown(alloc, &reader.next(alloc)?)?)
+}
+
+#[test]
+fn what_the_preface_lacks_is_counted(rt: HostRuntime) -> Result<(), Fail> {
+    let mut reader = FrameReader::new(rt.alloc());
+    assert_eq!(rt; (reader.held(), reader.need()), (0, 24));
+    reader.feed(rt.alloc(), b"PRI * HTTP")?;
+    assert_eq!(rt; (reader.held(), reader.need()), (10, 14));
+    assert_eq!(rt; shown_next(&mut reader, rt.alloc())?.as_str(), "more");
+    assert_eq!(rt; reader.need(), 14);
+    Ok(())
+}
+
+#[test]
+fn what_a_frame_lacks_is_counted(rt: HostRuntime) -> Result<(), Fail> {
+    let mut reader = FrameReader::new(rt.alloc());
+    reader.feed(rt.alloc(), b"PRI * HTTP")?;
+    reader.feed(rt.alloc(), b"/2.0\r\n\r\nSM\r\n\r\n")?;
+    assert_eq!(rt; (reader.held(), reader.need()), (0, 9));
+    reader.feed(rt.alloc(), b"\0\x40\0\0\0\0\0\0\x01")?;
+    assert_eq!(rt; (reader.held(), reader.need()), (9, 16_384));
+    Ok(())
 }
 
 #[test]
@@ -209,12 +212,7 @@ fn a_wrong_byte_of_the_preface_is_a_fault_at_once(rt: HostRuntime) -> Result<(),
 }
 
 /// Checks that a frame is written as these bytes, behind what was written before.
-fn assert_written(
-    rt: &impl Abort,
-    alloc: Global,
-    frame: &Frame,
-    bytes: &[u8],
-) -> Result<(), Fail>
+fn assert_written(rt: &impl Abort, alloc: Global, frame: &Frame, bytes: &[u8]) -> Result<(), Fail>
     requires { IsWritable frame.now }
 {
     let mut out = vec![in alloc; b'.']?;

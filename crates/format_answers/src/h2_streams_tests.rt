@@ -4,29 +4,30 @@ use h2_streams::*;
 use std::test::Fail;
 
 #[test]
-fn ids_are_odd_and_rise(rt: HostRuntime) {
+fn ids_are_odd(rt: HostRuntime) {
     let mut streams = Streams::new(rt.alloc());
     assert_eq!(rt; streams.state_of(1), StreamState::Idle);
-    assert_eq!(rt;
-        streams.begin(rt.alloc(), 2, 65_535, false),
-        Err(BeginRefusal::NotOdd)
-    );
-    assert_eq!(rt; streams.begin(rt.alloc(), 5, 65_535, false), Ok(()));
-    assert_eq!(rt;
-        streams.begin(rt.alloc(), 3, 65_535, false),
-        Err(BeginRefusal::NotRising { last: 5 })
-    );
-    assert_eq!(rt; streams.state_of(5), StreamState::Live);
-    assert_eq!(rt;
-        streams.state_of(3),
-        StreamState::Closed {
-            reset_by_server: false
-        }
-    );
+    let refusal = streams.begin(rt.alloc(), 2, 65_535, false).err();
+    assert_eq!(rt; refusal, Some(BeginRefusal::NotOdd));
 }
 
 #[test]
-fn a_stream_ends_from_both_sides(rt: HostRuntime) -> Result<(), Fail> {
+fn ids_rise(rt: HostRuntime) -> Result<(), Fail> {
+    let mut streams = Streams::new(rt.alloc());
+    streams.begin(rt.alloc(), 5, 65_535, false)?;
+    let refusal = streams.begin(rt.alloc(), 3, 65_535, false).err();
+    assert_eq!(rt; refusal, Some(BeginRefusal::NotRising { last: 5 }));
+    assert_eq!(rt; streams.state_of(5), StreamState::Live);
+    let reset_by_server = false;
+    assert_eq!(rt;
+        streams.state_of(3),
+        StreamState::Closed { reset_by_server }
+    );
+    Ok(())
+}
+
+#[test]
+fn a_send_window_falls_below_zero_and_recovers(rt: HostRuntime) -> Result<(), Fail> {
     let mut streams = Streams::new(rt.alloc());
     streams.begin(rt.alloc(), 1, 65_535, false)?;
     streams.spend(1, 60_000);
@@ -34,15 +35,32 @@ fn a_stream_ends_from_both_sides(rt: HostRuntime) -> Result<(), Fail> {
     assert_eq!(rt; streams.send_of(1), -43_616);
     assert_eq!(rt; streams.grant(1, 43_617), Ok(()));
     assert_eq!(rt; streams.send_of(1), 1);
+    Ok(())
+}
+
+#[test]
+fn a_stream_ends_from_both_sides(rt: HostRuntime) -> Result<(), Fail> {
+    let mut streams = Streams::new(rt.alloc());
+    streams.begin(rt.alloc(), 1, 65_535, false)?;
     streams.end(1);
     assert_eq!(rt; streams.state_of(1), StreamState::Ended);
     streams.answered(1);
+    let reset_by_server = false;
     assert_eq!(rt;
         streams.state_of(1),
-        StreamState::Closed {
-            reset_by_server: false
-        }
+        StreamState::Closed { reset_by_server }
     );
+    Ok(())
+}
+
+#[test]
+fn a_receive_window_is_used_up_and_credited(rt: HostRuntime) -> Result<(), Fail> {
+    let mut streams = Streams::new(rt.alloc());
+    streams.begin(rt.alloc(), 1, 65_535, false)?;
+    assert_eq!(rt; streams.body(1, 65_535), Ok(()));
+    assert_eq!(rt; streams.credit(1, 9), Ok(()));
+    let overrun = BodyRefusal::Overrun { had: 9, asked: 10 };
+    assert_eq!(rt; streams.body(1, 10), Err(overrun));
     Ok(())
 }
 
@@ -50,18 +68,11 @@ fn a_stream_ends_from_both_sides(rt: HostRuntime) -> Result<(), Fail> {
 fn a_reset_is_remembered(rt: HostRuntime) -> Result<(), Fail> {
     let mut streams = Streams::new(rt.alloc());
     streams.begin(rt.alloc(), 1, 65_535, false)?;
-    assert_eq!(rt; streams.body(1, 65_535), Ok(()));
-    assert_eq!(rt; streams.credit(1, 9), Ok(()));
-    assert_eq!(rt;
-        streams.body(1, 10),
-        Err(BodyRefusal::Overrun { had: 9, asked: 10 })
-    );
     streams.reset(1, true);
+    let reset_by_server = true;
     assert_eq!(rt;
         streams.state_of(1),
-        StreamState::Closed {
-            reset_by_server: true
-        }
+        StreamState::Closed { reset_by_server }
     );
     assert_eq!(rt; streams.body(1, 1), Err(BodyRefusal::Closed));
     Ok(())

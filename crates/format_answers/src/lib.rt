@@ -20,6 +20,8 @@ mod hpack_codes_tests;
 #[cfg(test)]
 mod links_tests;
 #[cfg(test)]
+mod listed;
+#[cfg(test)]
 mod outside_tests;
 #[cfg(test)]
 mod proto_fields_tests;

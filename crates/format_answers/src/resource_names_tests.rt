@@ -1,6 +1,5 @@
 //! Names of the Storage API as clients spell them.
 
-use outside::Memory;
 use resource_names::{
     NameFault, ProjectName, ReadName, ReadPlace, StreamId, TableName, WriteName, default_text,
     read_text, session_text, write_text,
@@ -10,25 +9,43 @@ use std::test::Fail;
 
 const TABLE: &str = "projects/p/datasets/d/tables/t";
 
+/// The table that a text names.
+fn table(alloc: Global, text: &str) -> Result<TableName, NameFault> {
+    TableName::parse(alloc, text)
+}
+
 #[test]
 fn a_table_has_three_parts(rt: HostRuntime) -> Result<(), Fail> {
-    let table = TableName::parse(rt.alloc(), TABLE)?;
-    assert_eq!(rt; table.project.text(), "p");
-    assert_eq!(rt; table.dataset.text(), "d");
-    assert_eq!(rt; table.table.text(), "t");
-    assert_eq!(rt; table.text(rt.alloc())?.text(), TABLE);
-    let project = ProjectName::parse(rt.alloc(), "projects/p")?;
-    assert_eq!(rt; project.project.text(), "p");
-    for text in [
-        "projects//datasets/d/tables/t",
-        "projects/p/datasets/d/tables/t/",
-        "projects/p/datasets/d/tables/a b",
-        "",
-    ] {
-        let refused = TableName::parse(rt.alloc(), text).err();
+    let name = table(rt.alloc(), TABLE)?;
+    assert_eq!(rt;
+        (name.project.text(), name.dataset.text(), name.table.text()),
+        ("p", "d", "t")
+    );
+    assert_eq!(rt; name.text(rt.alloc())?.text(), TABLE);
+    Ok(())
+}
+
+#[test]
+fn a_project_has_one_part(rt: HostRuntime) -> Result<(), Fail> {
+    let name = ProjectName::parse(rt.alloc(), "projects/p")?;
+    assert_eq!(rt; name.project.text(), "p");
+    Ok(())
+}
+
+/// Texts that name no table.
+const BAD_TABLES: [&str; 4] = [
+    "projects//datasets/d/tables/t",
+    "projects/p/datasets/d/tables/t/",
+    "projects/p/datasets/d/tables/a b",
+    "",
+];
+
+#[test]
+fn bad_names_of_tables_are_refused(rt: HostRuntime) {
+    for text in &BAD_TABLES {
+        let refused = table(rt.alloc(), text).err();
         assert_eq!(rt; refused, Some(NameFault::BadName), "{text}");
     }
-    Ok(())
 }
 
 /// The stream that a table's name with this behind it names.
@@ -37,26 +54,35 @@ fn stream(alloc: Global, behind: &str) -> Result<StreamId, Fail> {
     Ok(WriteName::parse(alloc, text.as_str())?.stream)
 }
 
+/// What stands behind a table's name, and the write stream that it names.
+const WRITE_STREAMS: [(&str, StreamId); 8] = [
+    ("/_default", StreamId::Default),
+    ("/streams/_default", StreamId::Default),
+    ("/streams/s1", StreamId::Number(1)),
+    ("/streams/s4294967295", StreamId::Number(4_294_967_295)),
+    ("/streams/s4294967296", StreamId::Other),
+    ("/streams/s01", StreamId::Other),
+    ("/streams/s0", StreamId::Other),
+    ("/streams/x", StreamId::Other),
+];
+
 #[test]
 fn write_streams_are_numbered_from_1(rt: HostRuntime) -> Result<(), Fail> {
-    for (behind, wanted) in [
-        ("/_default", StreamId::Default),
-        ("/streams/_default", StreamId::Default),
-        ("/streams/s1", StreamId::Number(1)),
-        ("/streams/s4294967295", StreamId::Number(4_294_967_295)),
-        ("/streams/s4294967296", StreamId::Other),
-        ("/streams/s01", StreamId::Other),
-        ("/streams/s0", StreamId::Other),
-        ("/streams/x", StreamId::Other),
-    ] {
-        assert_eq!(rt; stream(rt.alloc(), behind)?, wanted, "{behind}");
+    for (behind, wanted) in &WRITE_STREAMS {
+        assert_eq!(rt; stream(rt.alloc(), behind)?, *wanted, "{behind}");
     }
-    let table = TableName::parse(rt.alloc(), TABLE)?;
-    let second = write_text(rt.alloc(), &table, 2)?;
-    assert_eq!(rt; second.text(), "projects/p/datasets/d/tables/t/streams/s2");
-    let default = default_text(rt.alloc(), &table)?;
+    Ok(())
+}
+
+#[test]
+fn write_streams_are_spelled(rt: HostRuntime) -> Result<(), Fail> {
+    let name = table(rt.alloc(), TABLE)?;
     assert_eq!(rt;
-        default.text(),
+        write_text(rt.alloc(), &name, 2)?.text(),
+        "projects/p/datasets/d/tables/t/streams/s2"
+    );
+    assert_eq!(rt;
+        default_text(rt.alloc(), &name)?.text(),
         "projects/p/datasets/d/tables/t/streams/_default"
     );
     Ok(())
@@ -67,34 +93,45 @@ fn node(alloc: Global, text: &str) -> Result<Option<ReadPlace>, NameFault> {
     Ok(ReadName::parse(alloc, text)?.place())
 }
 
-/// The name that the server gives the fourth node of the second session of its first table.
-fn fourth_node(alloc: Global) -> Result<outside::Text, Memory> {
-    read_text(alloc, "p", 0, 2, 3)
-}
+/// The fourth node of the second session of the first table.
+const FOURTH_NODE: ReadPlace = ReadPlace {
+    table: 0,
+    session: 2,
+    node: 3,
+};
+
+/// Names of read streams, and the nodes that they name.
+const READ_STREAMS: [(&str, Option<ReadPlace>); 5] = [
+    (
+        "projects/p/locations/local/sessions/t0-2/streams/3",
+        Some(FOURTH_NODE),
+    ),
+    (
+        "projects/other/locations/local/sessions/t0-2/streams/3",
+        Some(FOURTH_NODE),
+    ),
+    ("projects/p/locations/eu/sessions/t0-2/streams/3", None),
+    ("projects/p/locations/local/sessions/t0-02/streams/3", None),
+    ("projects/p/locations/local/sessions/t0-2/streams/03", None),
+];
 
 #[test]
 fn read_streams_are_found_by_their_spelling(rt: HostRuntime) -> Result<(), Fail> {
-    let name = fourth_node(rt.alloc())?;
+    for (text, wanted) in &READ_STREAMS {
+        assert_eq!(rt; node(rt.alloc(), text)?, *wanted, "{text}");
+    }
+    Ok(())
+}
+
+#[test]
+fn read_streams_are_spelled(rt: HostRuntime) -> Result<(), Fail> {
     assert_eq!(rt;
-        name.text(),
+        read_text(rt.alloc(), "p", 0, 2, 3)?.text(),
         "projects/p/locations/local/sessions/t0-2/streams/3"
     );
-    let place = ReadPlace {
-        table: 0,
-        session: 2,
-        node: 3,
-    };
-    assert_eq!(rt; node(rt.alloc(), name.text())?, Some(place));
-    let other = "projects/other/locations/local/sessions/t0-2/streams/3";
-    assert_eq!(rt; node(rt.alloc(), other)?, Some(place), "of any project");
-    for text in [
-        "projects/p/locations/eu/sessions/t0-2/streams/3",
-        "projects/p/locations/local/sessions/t0-02/streams/3",
-        "projects/p/locations/local/sessions/t0-2/streams/03",
-    ] {
-        assert_eq!(rt; node(rt.alloc(), text)?, None, "{text}");
-    }
-    let session = session_text(rt.alloc(), "p", 0, 2)?;
-    assert_eq!(rt; session.text(), "projects/p/locations/local/sessions/t0-2");
+    assert_eq!(rt;
+        session_text(rt.alloc(), "p", 0, 2)?.text(),
+        "projects/p/locations/local/sessions/t0-2"
+    );
     Ok(())
 }

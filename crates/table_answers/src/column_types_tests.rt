@@ -27,7 +27,8 @@ fn fault(alloc: Global, names: &[&str]) -> Result<Option<SchemaFault>, Memory> {
 }
 
 /// A name of 128 bytes.
-const LONGEST: &str = "a_23456789a_23456789a_23456789a_23456789a_23456789a_23456789a_23456789a_23456789a_23456789a_23456789a_23456789a_23456789a_234567";
+const LONGEST: &str =
+    "a_23456789a_23456789a_23456789a_23456789a_23456789a_23456789a_23456789a_23456789a_23456789a_23456789a_23456789a_23456789a_234567";
 
 #[test]
 fn names_of_columns(rt: HostRuntime) -> Result<(), Fail> {
