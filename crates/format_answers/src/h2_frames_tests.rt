@@ -190,6 +190,7 @@ fn what_the_preface_lacks_is_counted(rt: HostRuntime) -> Result<(), Fail> {
 fn what_a_frame_lacks_is_counted(rt: HostRuntime) -> Result<(), Fail> {
     let mut reader = FrameReader::new(rt.alloc());
     reader.feed(rt.alloc(), b"PRI * HTTP")?;
+    assert_eq!(rt; (reader.held(), reader.need()), (10, 14));
     reader.feed(rt.alloc(), b"/2.0\r\n\r\nSM\r\n\r\n")?;
     assert_eq!(rt; (reader.held(), reader.need()), (0, 9));
     reader.feed(rt.alloc(), b"\0\x40\0\0\0\0\0\0\x01")?;
